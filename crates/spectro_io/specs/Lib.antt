@@ -1,0 +1,11 @@
+pub mod Faults
+pub mod Bytes
+pub mod Blanks
+pub mod Numbers
+pub mod Lines
+pub mod Limits
+pub mod Reads
+pub mod Shelves
+pub mod Plans
+pub mod Memory
+pub mod Entries

@@ -1,0 +1,6 @@
+-- How much of a text is read. In proofs it stays a name, since to count it out would take too long.
+use Rattle.std.specs.Prelude.{ℕ}
+
+-- as many bytes of a text are read: one more than a text may have
+unfoldable pub read_limit : ℕ
+read_limit = 67108865

@@ -1,0 +1,17 @@
+//! Devices that bytes come from and go to, and what texts are made of: lines, blanks and numbers.
+#![tactic(auto)]
+
+mod bytes;
+mod devices;
+mod lines;
+mod memory;
+mod read;
+mod text;
+mod write;
+
+pub use devices::{Failed, Shelf, Sink, Source};
+pub use lines::{LineAt, line_at};
+pub use memory::{MemShelf, MemSink, MemSource};
+pub use read::{READ_LIMIT, ReadError, read_all};
+pub use text::{number, trim};
+pub use write::{write_number, write_whole};
