@@ -1,0 +1,9 @@
+use Rattle.spectro.specs.Words.{command}
+use Rattle.spectro.proofs.OneOutcome.{one_of_command}
+use Rattle.spectro.proofs.unique.one_outcome.Goals as goal
+
+pub returns-clause-status : goal.returns-clause-status
+returns-clause-status c = λ words texts one other bytes more first second. (one_of_command ? ? (command words) texts one other bytes more first second).status
+
+pub returns-clause-bytes : goal.returns-clause-bytes
+returns-clause-bytes c = λ words texts one other bytes more first second. (one_of_command ? ? (command words) texts one other bytes more first second).output

@@ -1,0 +1,46 @@
+-- When a fault of a device may be answered.
+use Rattle.std.specs.Prelude.{ℕ, ◌≡◌, ◌⊎◌, List, take, Option, None, Some}
+use Rattle.spectro_io.specs.Faults.{Rose}
+use Rattle.spectro_io.specs.Limits.{read_limit}
+use Rattle.spectro_io.specs.Shelves.{Texts}
+use Rattle.spectro.specs.Words.{Word, Command, eval}
+use Rattle.spectro.specs.declared.status.Status.{Status}
+use Rattle.spectro.specs.declared.status.Status.TheVariants.{Usage, ReadFault, WriteFault, OutOfMemory}
+
+-- the shelf tells its texts, and the name holds none
+abbrev pub HoldsNothing : Option Texts → Word → Type 0
+HoldsNothing None name = ⊥
+HoldsNothing (Some texts) name = texts name ≡ None
+
+-- the bytes are the text that the name holds, as far as it is read
+abbrev pub HasRead : Word → List ℕ → Texts → Type 0
+HasRead name bytes texts = (text : List ℕ) × (texts name ≡ Some text) × (bytes ≡ take read_limit text)
+
+-- a text was not read, since the shelf failed or the name holds nothing
+abbrev pub IsUnread : Option Texts → Word → ℕ → ℕ → Status → Type 0
+IsUnread told name before now status = (status ≡ ReadFault) × (Rose before now ⊎ HoldsNothing told name)
+
+-- a refusal of this kind, or want of memory
+abbrev pub OrMemory : (Status → Type 0) → Status → Type 0
+OrMemory P status = (status ≡ OutOfMemory) ⊎ P status
+
+-- a file of the command holds nothing
+abbrev pub LacksFile : Option Texts → Option Command → Type 0
+LacksFile told None = ⊥
+LacksFile told (Some (eval formula file)) = HoldsNothing told file
+
+-- how often the devices had failed before the call, and after it
+pub record Counts : Type 0 where
+  pub shelf_before : ℕ
+  pub shelf_now : ℕ
+  pub out_before : ℕ
+  pub out_now : ℕ
+
+pub record HasCauses (told : Option Texts) (asked : Option Command) (counts : Counts) (answer : Status) : Type 0 where
+  -- a fault of reading: the shelf failed, or a file that the command names holds nothing
+  pub read : answer ≡ ReadFault → Rose counts.shelf_before counts.shelf_now ⊎ LacksFile told asked
+  -- a fault of writing: the output failed
+  pub write : answer ≡ WriteFault → Rose counts.out_before counts.out_now
+  -- the words are refused where they are no command, and nowhere else
+  pub usage : answer ≡ Usage → asked ≡ None
+  pub no_command : asked ≡ None → answer ≡ Usage

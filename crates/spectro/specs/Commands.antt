@@ -1,0 +1,2 @@
+-- What each command gives, one file a command.
+pub mod Eval

@@ -1,0 +1,9 @@
+pub mod Words
+pub mod Asked
+pub mod Refusals
+pub mod Notation
+pub mod Commands
+pub mod Outcome
+pub mod Causes
+pub mod Codes
+pub mod Real

@@ -1,0 +1,79 @@
+//! Runs over devices in memory.
+
+mod eval;
+
+use crate::run::run;
+use crate::status::Status;
+use spectro_io::{MemShelf, MemSink, MemSource};
+use std::alloc::{AllocError, Global};
+
+// A process that has stopped.
+const STOPPED: &str = "des (0, 0, 1)\n";
+
+// A choice between b and c.
+const CHOICE: &str = "des (0,2,2)\n(0,b,1)\n(0,c,1)\n";
+
+// After a, either b or c, as the first step decides.
+const EARLY_CHOICE: &str = "des (0, 4, 4)\n(0, a, 1)\n(0, a, 2)\n(1, b, 3)\n(2, c, 3)\n";
+
+// A label in quotes, which plain texts do not have.
+const QUOTED: &str = "des (0,1,2)\n(0,\"a\",1)\n";
+
+const FILES: [(&str, &str); 4] = [
+    ("stopped.aut", STOPPED),
+    ("choice.aut", CHOICE),
+    ("early.aut", EARLY_CHOICE),
+    ("quoted.aut", QUOTED),
+];
+
+// How a run ended, and what it wrote.
+#[derive(Drop)]
+struct Run {
+    status: Status,
+    out: MemSink,
+    err: MemSink,
+}
+
+fn words_of(alloc: Global, given: &[&str]) -> Result<Vec<String>, AllocError> {
+    let mut words = Vec::new(alloc);
+    for word in given {
+        words.push(String::from_str(alloc, word)?)?;
+    }
+    Ok(words)
+}
+
+// The files on a shelf that gives seven bytes a read, of whose calls these fail.
+fn shelf_with(
+    alloc: Global,
+    files: &[(&str, &str)],
+    fails: &[u64],
+) -> Result<MemShelf, AllocError> {
+    let mut shelf = MemShelf::new(alloc, 7, fails)?;
+    for (name, text) in files {
+        shelf.put(name, text.as_bytes())?;
+    }
+    Ok(shelf)
+}
+
+// A run over the files, with an output that takes one byte a call. These calls of the shelf and of the output fail.
+fn run_words(
+    alloc: Global,
+    given: &[&str],
+    shelf_fails: &[u64],
+    out_fails: &[u64],
+) -> Result<Run, AllocError> {
+    let words = words_of(alloc, given)?;
+    let mut shelf = shelf_with(alloc, &FILES, shelf_fails)?;
+    let mut input = MemSource::new(alloc, b"", 1, &[])?;
+    let mut out = MemSink::new(alloc, 1000, 1, out_fails)?;
+    let mut err = MemSink::new(alloc, 1000, 1, &[])?;
+    let status = run(
+        alloc,
+        words.as_slice(),
+        &mut shelf,
+        &mut input,
+        &mut out,
+        &mut err,
+    );
+    Ok(Run { status, out, err })
+}

@@ -1,0 +1,24 @@
+ghost use Rattle.std.specs.Prelude.{◌≡◌};
+ghost use Rattle.std.specs.Option.{option_map};
+ghost use Rattle.spectro.specs.Words.{command, words_of};
+ghost use Rattle.spectro.specs.Asked.{asked};
+
+/// A command with its words.
+#[derive(Clone, Copy)]
+pub enum Command<'a> {
+    /// Whether the formula is true at the initial state of the file's system, and what it costs.
+    Eval { formula: &'a str, file: &'a str },
+}
+
+/// The command that the words are, if they are one.
+pub fn command_of(words: &[String]) -> Option<Command<'_>>
+    ensures { option_map asked result ≡ command (words_of words.now) }
+{
+    match words {
+        [verb, formula, file] if verb.as_str() == "eval" => Some(Command::Eval {
+            formula: formula.as_str(),
+            file: file.as_str(),
+        }),
+        _ => None,
+    }
+}
