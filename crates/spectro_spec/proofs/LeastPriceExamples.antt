@@ -2,7 +2,7 @@
 use Rattle.std.proofs.Common.{◌≡◌, ◌≤◌, ◌⊎◌, inl, inr, [], ◌∷◌, refl, ap, arith, rules}
 use Rattle.spectro_spec.specs.Formula.{Formula, Clauses, see, all, no_clauses, plus, minus, Satisfies, SatisfiesEach}
 use Rattle.spectro_spec.specs.Weighing.{Weighing}
-use Rattle.spectro_spec.specs.Price.{Price}
+use Rattle.spectro_spec.specs.Price.{ComesBefore, Price}
 use Rattle.spectro_spec.specs.Pricing.{price, priced_clauses, price_of_conjunction}
 use Rattle.spectro_spec.specs.Notion.{Distinguishes}
 use Rattle.spectro_spec.specs.LeastPrices.{Covers, AreLeastPrices}
@@ -95,3 +95,15 @@ not_AreLeastPrices-greater : ¬ AreLeastPrices [] one_step 0 (1 ∷ []) (six 1 1
 not_AreLeastPrices-greater least =
     let same : six 1 1 0 0 0 0 ≡ six 1 2 0 0 0 0 = least.apart _ _ (0, omega arith, refl) (1, omega arith, refl) (search rules) in
     omega (arith, ap (λ (e : Price). e.conjunctions) same)
+
+-- each member stands for a formula
+not_AreLeastPrices-lower : ¬ AreLeastPrices [] one_step 0 (1 ∷ []) (six 0 0 0 0 0 0 ∷ [])
+not_AreLeastPrices-lower least =
+    let made : (formula : Formula) × Distinguishes one_step 0 (1 ∷ []) formula × (price [] formula ≡ six 0 0 0 0 0 0) = least.prices (six 0 0 0 0 0 0) (0, omega arith, refl) in
+    omega (arith, conjunctions-at_least_one [] made.0, ap (λ (e : Price). e.conjunctions) made.2)
+
+-- and stands once
+not_AreLeastPrices-repeat : ¬ AreLeastPrices [] one_step 0 (1 ∷ []) (six 1 1 0 0 0 0 ∷ six 1 1 0 0 0 0 ∷ [])
+not_AreLeastPrices-repeat least =
+    let h : ComesBefore (six 1 1 0 0 0 0) (six 1 1 0 0 0 0) = least.rises.0 (six 1 1 0 0 0 0) (0, omega arith, refl) in
+    grind arith

@@ -11,6 +11,9 @@ parts-in_order = refl
 IsAtMost-itself : IsAtMost (seven 1 2 3 4 5 6 7) (seven 1 2 3 4 5 6 7)
 IsAtMost-itself = search rules
 
+IsAtMost-two_greater_parts : IsAtMost (six 2 2 0 0 1 1) (six 2 3 0 0 1 2)
+IsAtMost-two_greater_parts = search rules
+
 -- each part counts
 not_IsAtMost-observations : ¬ IsAtMost (seven 2 2 3 4 5 6 7) (seven 1 2 3 4 5 6 7)
 not_IsAtMost-observations h = omega arith
@@ -66,7 +69,7 @@ Rises-two = ((λ f member. only_member (λ g. ComesBefore (six 2 2 1 1 0 0) g) (
 not_Rises-repeat : ¬ Rises (six 1 1 0 0 0 0 ∷ six 1 1 0 0 0 0 ∷ [])
 not_Rises-repeat (first, rest) = let h : ComesBefore (six 1 1 0 0 0 0) (six 1 1 0 0 0 0) = first (six 1 1 0 0 0 0) (Contains-first _ []) in grind arith
 
--- a later member counts, not the next alone
+-- each member comes before the later ones, not the first alone
 not_Rises-third : ¬ Rises (six 2 1 0 0 0 0 ∷ six 3 1 0 0 0 0 ∷ six 1 1 0 0 0 0 ∷ [])
 not_Rises-third (first, (second, rest)) = let h : ComesBefore (six 3 1 0 0 0 0) (six 1 1 0 0 0 0) = second (six 1 1 0 0 0 0) (Contains-first _ []) in grind arith
 

@@ -1,9 +1,10 @@
 -- Worked prices, which the checker computes.
-use Rattle.std.proofs.Common.{◌≡◌, [], ◌∷◌, refl}
+use Rattle.std.proofs.Common.{arith, ◌≤◌, ◌≡◌, [], ◌∷◌, refl}
+use Rattle.std.proofs.lemmas.List.Elements.{All-from_recursion}
 use Rattle.spectro_spec.specs.Formula.{see, all, no_clauses, plus, minus}
-use Rattle.spectro_spec.specs.Weighing.{Weighing, weight_of}
+use Rattle.spectro_spec.specs.Weighing.{Weighing, IsWeighing, weight_of}
 use Rattle.spectro_spec.specs.Pricing.{price, greatest, second_greatest}
-use Rattle.spectro_spec.proofs.Samples.{a, b, c, true_everywhere, enabled, disabled, then_both, then_not, seven, six}
+use Rattle.spectro_spec.proofs.Samples.{a, b, c, true_everywhere, enabled, disabled, then_both, then_both_by_negations, then_not, seven, six}
 
 greatest-none : greatest [] ≡ 0
 greatest-none = refl
@@ -80,11 +81,20 @@ price-negations_side_by_side = refl
 price-conjunction_in_negative_clause : price [] (all (minus then_both no_clauses)) ≡ six 2 3 1 1 2 1
 price-conjunction_in_negative_clause = refl
 
+price-conjunction_in_positive_clause : price [] (all (plus then_both no_clauses)) ≡ six 2 3 2 1 0 0
+price-conjunction_in_positive_clause = refl
+
+price-negation_in_positive_clause : price [] (all (plus (disabled a) no_clauses)) ≡ six 1 3 1 0 1 1
+price-negation_in_positive_clause = refl
+
 price-nested_conjunctions : price [] (all (plus (all (plus true_everywhere no_clauses)) no_clauses)) ≡ six 0 3 0 0 0 0
 price-nested_conjunctions = refl
 
 price-then_both : price [] then_both ≡ six 2 2 1 1 0 0
 price-then_both = refl
+
+price-then_both_by_negations : price [] then_both_by_negations ≡ six 2 3 0 0 1 2
+price-then_both_by_negations = refl
 
 price-then_not : price [] (then_not c) ≡ six 2 2 0 0 1 1
 price-then_not = refl
@@ -92,6 +102,15 @@ price-then_not = refl
 -- a weighs 5, and b nothing
 abbrev dear_and_free : Weighing
 dear_and_free = record { label = a; weight = 5 } ∷ record { label = b; weight = 0 } ∷ []
+
+IsWeighing-dear_and_free : IsWeighing dear_and_free
+IsWeighing-dear_and_free = All-from_recursion (λ entry. entry.weight ≤ 255) dear_and_free (omega arith, (omega arith, tt))
+
+IsWeighing-greatest : IsWeighing (record { label = a; weight = 255 } ∷ [])
+IsWeighing-greatest = All-from_recursion (λ entry. entry.weight ≤ 255) (record { label = a; weight = 255 } ∷ []) (omega arith, tt)
+
+not_IsWeighing-greater : ¬ IsWeighing (record { label = a; weight = 256 } ∷ [])
+not_IsWeighing-greater h = let low : 256 ≤ 255 = h 0 (record { label = a; weight = 256 }) (omega arith) in omega arith
 
 weight_of-dear : weight_of dear_and_free a ≡ 5
 weight_of-dear = refl

@@ -58,6 +58,10 @@ disabled label = all (minus (enabled label) no_clauses)
 abbrev pub then_both : Formula
 then_both = see a (all (plus (enabled b) (plus (enabled c) no_clauses)))
 
+-- the same said by negations: to where it is not so that b can't follow, nor that c can't
+abbrev pub then_both_by_negations : Formula
+then_both_by_negations = see a (all (minus (disabled b) (minus (disabled c) no_clauses)))
+
 -- a step under a leads to where the label can't follow
 abbrev pub then_not : Label → Formula
 then_not label = see a (disabled label)

@@ -72,6 +72,10 @@ post-late_and_early : post late_and_early (0 ∷ 3 ∷ []) a ≡ 1 ∷ 4 ∷ 5 �
 unfolding post
 post-late_and_early = refl
 
+post-two_targets : post late_and_early (1 ∷ 5 ∷ []) c ≡ 2 ∷ 6 ∷ []
+unfolding post
+post-two_targets = refl
+
 join-late_and_early : join late early ≡ late_and_early
 join-late_and_early = refl
 

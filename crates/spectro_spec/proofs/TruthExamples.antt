@@ -4,7 +4,7 @@ use Rattle.spectro_spec.specs.System.{System}
 use Rattle.spectro_spec.specs.Formula.{Formula, see, all, no_clauses, plus, minus, Satisfies}
 use Rattle.spectro_spec.specs.Notion.{Distinguishes}
 use Rattle.spectro_spec.proofs.Members.{any_member, only_member, Contains-none, Contains-first, targets}
-use Rattle.spectro_spec.proofs.Samples.{a, b, c, one_step, late_and_early, true_everywhere, enabled, disabled, then_both, then_not}
+use Rattle.spectro_spec.proofs.Samples.{a, b, c, one_step, late_and_early, true_everywhere, enabled, disabled, then_both, then_both_by_negations, then_not}
 
 satisfied-enabled : Satisfies one_step 0 (enabled a)
 satisfied-enabled = (1, (0, omega arith, refl), tt)
@@ -54,6 +54,13 @@ refuted-then_both : ¬ Satisfies late_and_early 3 then_both
 refuted-then_both (t, h, f) =
     any_member (λ s. ¬ Satisfies late_and_early s (all (plus (enabled b) (plus (enabled c) no_clauses)))) (4 ∷ 5 ∷ []) t ((λ g. no_c_at_4 g.1.0), ((λ g. no_b_at_5 g.0), tt)) (targets late_and_early.steps 3 a t h) f
 
+satisfied-then_both_by_negations : Satisfies late_and_early 0 then_both_by_negations
+satisfied-then_both_by_negations = (1, (0, omega arith, refl), ((λ g. g.0 (2, (1, omega arith, refl), tt)), ((λ g. g.0 (2, (2, omega arith, refl), tt)), tt)))
+
+refuted-then_both_by_negations : ¬ Satisfies late_and_early 3 then_both_by_negations
+refuted-then_both_by_negations (t, h, f) =
+    any_member (λ s. ¬ Satisfies late_and_early s (all (minus (disabled b) (minus (disabled c) no_clauses)))) (4 ∷ 5 ∷ []) t ((λ g. g.1.0 (no_c_at_4, tt)), ((λ g. g.0 (no_b_at_5, tt)), tt)) (targets late_and_early.steps 3 a t h) f
+
 satisfied-then_not : Satisfies late_and_early 3 (then_not c)
 satisfied-then_not = (4, (3, omega arith, refl), (no_c_at_4, tt))
 
@@ -92,6 +99,12 @@ pub Distinguishes-then_both : Distinguishes late_and_early 0 (3 ∷ []) then_bot
 Distinguishes-then_both = record {
   satisfied = satisfied-then_both;
   refuted = λ q member. only_member (λ s. ¬ Satisfies late_and_early s then_both) 3 q refuted-then_both member;
+}
+
+Distinguishes-then_both_by_negations : Distinguishes late_and_early 0 (3 ∷ []) then_both_by_negations
+Distinguishes-then_both_by_negations = record {
+  satisfied = satisfied-then_both_by_negations;
+  refuted = λ q member. only_member (λ s. ¬ Satisfies late_and_early s then_both_by_negations) 3 q refuted-then_both_by_negations member;
 }
 
 pub Distinguishes-then_not : Distinguishes late_and_early 3 (0 ∷ []) (then_not c)
