@@ -84,7 +84,7 @@ AreLeastPrices-itself = record {
   apart = λ e f e_member f_member h. absurd (Contains-none e e_member);
 }
 
--- what says nothing distinguishes already from no states
+-- from no states at all each formula that is true distinguishes
 not_AreLeastPrices-none : ¬ AreLeastPrices [] one_step 0 [] []
 not_AreLeastPrices-none least =
     let covered : Covers [] (six 0 1 0 0 0 0) = least.covers (all no_clauses) (record { satisfied = tt; refuted = λ q member. absurd (Contains-none q member) }) in

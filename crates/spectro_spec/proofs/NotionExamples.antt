@@ -17,11 +17,11 @@ Holds-itself weighing bound system p formula within d = d.refuted p (Contains-fi
 not_Holds-enabledness : ¬ Holds [] enabledness.bound one_step 0 1
 not_Holds-enabledness holds = holds (enabled a) (search rules) Distinguishes-enabled
 
--- the price under the weighing has no part in the bound but the first six
+-- however much the label weighs: the weighted depth has no bound
 not_Holds-enabledness_weighed : ¬ Holds (record { label = a; weight = 255 } ∷ []) enabledness.bound one_step 0 1
 not_Holds-enabledness_weighed holds = holds (enabled a) (search rules) Distinguishes-enabled
 
--- nothing is enabled after the step, and something before it
+-- the label is disabled after the step, and not before it
 not_Holds-bisimulation : ¬ Holds [] bisimulation.bound one_step 1 0
 not_Holds-bisimulation holds = holds (disabled a) (search rules) Distinguishes-disabled
 
@@ -41,7 +41,7 @@ not_IsWithin-then_not within = omega arith
 not_IsWithin-then_both : ¬ IsWithin (price [] then_both) failures.bound
 not_IsWithin-then_both within = omega arith
 
--- what can do nothing has a part of the traces of what can do something
+-- no step leads on from 1, so one formula within the bound is true there, and it is true everywhere
 Holds-traces : (weighing : Weighing) → Holds weighing traces.bound one_step 1 0
 Holds-traces weighing (see label formula) within d = Contains-none d.satisfied.0 (targets one_step.steps 1 label d.satisfied.0 d.satisfied.1)
 Holds-traces weighing (all no_clauses) within d = d.refuted 0 (Contains-first 0 []) tt

@@ -29,7 +29,7 @@ post-other_label : post one_step (0 ∷ 1 ∷ []) b ≡ []
 unfolding post
 post-other_label = refl
 
--- two steps to one state, one of them twice
+-- three steps, one of them twice
 abbrev repeated : System
 repeated = record { states = 3; initial = 0; steps = step 0 a 2 ∷ step 1 a 0 ∷ step 0 a 2 ∷ step 1 a 2 ∷ [] }
 
@@ -46,7 +46,7 @@ post-two_states_in_the_other_order : post repeated (1 ∷ 0 ∷ 1 ∷ []) a ≡ 
 unfolding post
 post-two_states_in_the_other_order = refl
 
--- a label that only begins with another, and one with another's first byte
+-- labels of more than one byte
 abbrev longer_label : System
 longer_label = record { states = 2; initial = 0; steps = step 0 (codes "ab") 1 ∷ step 1 (codes "tau") 0 ∷ [] }
 
@@ -67,7 +67,7 @@ post-tau : post longer_label (1 ∷ []) (codes "tau") ≡ 0 ∷ []
 unfolding post
 post-tau = refl
 
--- the one that 0 and 3 have in common: the early choice has two targets
+-- one target of the late choice, and two of the early one
 post-late_and_early : post late_and_early (0 ∷ 3 ∷ []) a ≡ 1 ∷ 4 ∷ 5 ∷ []
 unfolding post
 post-late_and_early = refl
