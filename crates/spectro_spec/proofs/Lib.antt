@@ -1,1 +1,9 @@
-pub mod Examples
+pub mod Samples
+pub mod Members
+pub mod SystemExamples
+pub mod TruthExamples
+pub mod PriceExamples
+pub mod OrderExamples
+pub mod SpectrumExamples
+pub mod LeastPriceExamples
+pub mod NotionExamples

@@ -1,4 +1,4 @@
--- The thirteen notions, after van Glabbeek's linear-time branching-time spectrum. The bounds are this project's own.
+-- The thirteen notions, named after van Glabbeek's linear-time branching-time spectrum. The bounds stand here, and no more is said of the literature's notions.
 use Rattle.std.specs.Prelude.{ℕ, List, [], ◌∷◌, Option, None, Some, codes}
 use Rattle.spectro_spec.specs.Notion.{Notion}
 
