@@ -2,5 +2,7 @@
 #![tactic(auto)]
 
 mod lts;
+mod plain_label;
 
 pub use lts::{Lts, Step};
+pub use plain_label::plain_label_at;
