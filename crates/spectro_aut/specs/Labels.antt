@@ -1,0 +1,15 @@
+-- The labels of steps by number.
+use Rattle.std.specs.Prelude.{◌≡◌, ℕ, List, [], map, slice_get, Some}
+use Rattle.std.specs.Str.{bytes_eq}
+use Rattle.indexmap.specs.IndexSet.{insert_all}
+use Rattle.spectro_spec.specs.System.{Label, Step}
+
+-- the labels of the steps, each once, in the order in which they first stand
+abbrev pub labels_of : List Step → List Label
+labels_of steps = insert_all bytes_eq [] (map (λ step. step.label) steps)
+
+-- the step at this place has these states, and the label of this number
+pub record IsStepAt (steps : List Step) (place source label_no target : ℕ) : Type 0 where
+  pub label : Label
+  pub found : slice_get steps place ≡ Some (record { source = source; label = label; target = target })
+  pub numbered : slice_get (labels_of steps) label_no ≡ Some label
