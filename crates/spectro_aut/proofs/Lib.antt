@@ -1,2 +1,8 @@
 pub mod Numbering
 pub mod PlainLabelLaws
+pub mod Fronts
+pub mod Numbers
+pub mod Headers
+pub mod Lines
+pub mod Steps
+pub mod Texts

@@ -1,3 +1,6 @@
 pub mod Labels
 pub mod Numbered
 pub mod PlainLabels
+pub mod Grammar
+pub mod Faults
+pub mod Reading
