@@ -7,7 +7,7 @@ use Rattle.spectro_spec.specs.Price.{Price}
 use Rattle.spectro_spec.specs.Pricing.{price}
 use Rattle.spectro_aut.specs.Grammar.{IsPlainText}
 use Rattle.spectro_hml.specs.Chain.{formula_of}
-use Rattle.spectro_hml.specs.Plain.{IsPlainFormula}
+use Rattle.spectro_hml.specs.Grammar.{IsPlainFormula}
 use Rattle.spectro.specs.declared.status.Status.{Status}
 use Rattle.spectro.specs.declared.status.Status.TheVariants.{Done}
 use Rattle.spectro.specs.declared.status.Which.TheVariants.{Left}

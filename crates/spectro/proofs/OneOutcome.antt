@@ -8,7 +8,7 @@ use Rattle.spectro_spec.specs.Pricing.{price}
 use Rattle.spectro_io.specs.Shelves.{Texts}
 use Rattle.spectro_aut.specs.Grammar.{IsPlainText}
 use Rattle.spectro_hml.specs.Chain.{formula_of}
-use Rattle.spectro_hml.specs.Plain.{IsPlainFormula}
+use Rattle.spectro_hml.specs.Grammar.{IsPlainFormula}
 use Rattle.spectro.specs.declared.status.Status.{Status}
 use Rattle.spectro.specs.declared.status.Which.{Which}
 use Rattle.spectro.specs.declared.status.Which.TheVariants.{Left}

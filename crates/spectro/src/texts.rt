@@ -2,7 +2,7 @@
 
 ghost use Rattle.std.specs.Prelude.{◌≡◌, ◌≤◌, IfOk, IfErr, IfSome};
 ghost use Rattle.spectro_aut.specs.Grammar.{IsPlainText};
-ghost use Rattle.spectro_hml.specs.Plain.{IsPlainFormula};
+ghost use Rattle.spectro_hml.specs.Grammar.{IsPlainFormula};
 ghost use Rattle.spectro.specs.Causes.{HasRead, OrMemory, IsUnread};
 ghost use Rattle.spectro.specs.Refusals.{RefusesSystem, RefusesFormula};
 

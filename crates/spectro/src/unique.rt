@@ -4,8 +4,14 @@ ghost use Rattle.spectro.specs.declared.status.Status.{Status};
 ghost use Rattle.spectro.specs.Outcome.{IsOutcome};
 ghost use Rattle.spectro.specs.Words.{Word};
 
+use spectro_aut::one_system;
+use spectro_hml::one_chain;
+
 /// The words and the texts have at most one outcome: one status, and one row of bytes.
 pub fn one_outcome()
     ensures status { (words : List Word) (texts : Texts) (one other : Status) (bytes more : List ℕ) → IsOutcome words texts one bytes → IsOutcome words texts other more → one ≡ other }
     ensures bytes { (words : List Word) (texts : Texts) (one other : Status) (bytes more : List ℕ) → IsOutcome words texts one bytes → IsOutcome words texts other more → bytes ≡ more }
-{}
+{
+    one_system();
+    one_chain();
+}
