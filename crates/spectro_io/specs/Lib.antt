@@ -2,6 +2,7 @@ pub mod Faults
 pub mod Bytes
 pub mod Blanks
 pub mod Numbers
+pub mod Fronts
 pub mod Lines
 pub mod Limits
 pub mod Reads
