@@ -1,5 +1,6 @@
 //! Runs over devices in memory.
 
+mod devices;
 mod eval;
 
 use crate::run::run;
