@@ -23,7 +23,15 @@ fn reads_steps_and_numbers_their_labels(rt: HostRuntime) -> Result<(), Fail> {
 }
 
 #[test]
-fn refuses_what_is_no_plain_text(rt: HostRuntime) {
+fn refuses_what_is_no_plain_text(rt: HostRuntime) -> Result<(), Fail> {
+    let not_plain = AutFault {
+        line: 1,
+        kind: AutKind::NotPlain,
+    };
+    assert_eq!(rt;
+        format!(in rt.alloc(); "{not_plain}")?.as_str(),
+        "line 1: NotPlain"
+    );
     for (what, text) in [
         ("empty", "".as_bytes()),
         ("cut in the header", b"des (0,1"),
@@ -50,10 +58,7 @@ fn refuses_what_is_no_plain_text(rt: HostRuntime) {
             Err(AutError::Text(fault)) => Some(fault),
             _ => None,
         };
-        let not_plain = AutFault {
-            line: 1,
-            kind: AutKind::NotPlain,
-        };
         assert_eq!(rt; fault, Some(not_plain), "{what}");
     }
+    Ok(())
 }
