@@ -1,18 +1,45 @@
 -- What is read as a header is one, and each header is read.
 use Rattle.std.proofs.Common.{◌≡◌, ◌∙◌, ℕ, List, [], ◌∷◌, ◌++◌, refl, ap, subst, append_assoc}
-use Rattle.std.specs.Prelude.{Some, codes}
-use Rattle.spectro_aut.specs.Grammar.{IsShortNumber, IsHeader}
+use Rattle.std.specs.Prelude.{Option, Some, codes}
+use Rattle.spectro_aut.specs.Grammar.{IsShortNumber, IsComma, IsHeader}
 use Rattle.spectro_aut.specs.Reading.{after, comma_at, number_at, header_at}
 use Rattle.spectro_aut.specs.declared.header.Header.{Header}
 use Rattle.spectro_aut.proofs.Fronts.{bind_some, some_same, after_sound, comma_sound, comma_complete, digit_count-comma}
 use Rattle.spectro_aut.proofs.Numbers.{number_sound, number_complete, after_blank}
 
+-- texts one after another are one text
 pub joined : (text w r1 a r2 b r3 c r4 d r5 e r6 z rest : List ℕ) → text ≡ w ++ r1 → r1 ≡ a ++ r2 → r2 ≡ b ++ r3 → r3 ≡ c ++ r4 → r4 ≡ d ++ r5 → r5 ≡ e ++ r6 → r6 ≡ z ++ rest
     → text ≡ (w ++ a ++ b ++ c ++ d ++ e ++ z) ++ rest
 joined text w r1 a r2 b r3 c r4 d r5 e r6 z rest h1 h2 h3 h4 h5 h6 h7 = rw (h1, h2, h3, h4, h5, h6, h7) (simp append_assoc)
 
 pub regroup : (w a b c d e z rest : List ℕ) → (w ++ a ++ b ++ c ++ d ++ e ++ z) ++ rest ≡ w ++ (a ++ (b ++ (c ++ (d ++ (e ++ (z ++ rest))))))
 regroup w a b c d e z rest = simp append_assoc
+
+-- the parts of a header, in order before what is left
+header_of : (text last : List ℕ) (initial transitions states : ℕ) (initial_text first_comma transitions_text second_comma states_text : List ℕ) (header : Header) (rest : List ℕ)
+    → IsShortNumber initial_text initial → IsComma first_comma → IsShortNumber transitions_text transitions → IsComma second_comma → IsShortNumber states_text states
+    → text ≡ (codes "des (" ++ initial_text ++ first_comma ++ transitions_text ++ second_comma ++ states_text ++ 41 ∷ 10 ∷ []) ++ last
+    → ◌≡◌ {A = Option (Header × List ℕ)} (Some (record { initial = initial; transitions = transitions; states = states }, last)) (Some (header, rest))
+    → (front : List ℕ) × IsHeader front header.initial header.transitions header.states × (text ≡ front ++ rest)
+header_of text last initial transitions states i c t d s header rest is_initial is_first is_transitions is_second is_states whole read =
+    let P : Header × List ℕ → Type 0 = λ parts. (front : List ℕ) × IsHeader front parts.0.initial parts.0.transitions parts.0.states × (text ≡ front ++ parts.1) in
+    subst P (some_same (record { initial = initial; transitions = transitions; states = states }, last) (header, rest) read) (
+      codes "des (" ++ i ++ c ++ t ++ d ++ s ++ 41 ∷ 10 ∷ [],
+      record {
+        initial_text = i;
+        first_comma = c;
+        transitions_text = t;
+        second_comma = d;
+        states_text = s;
+        whole = refl;
+        is_initial = is_initial;
+        is_first_comma = is_first;
+        is_transitions = is_transitions;
+        is_second_comma = is_second;
+        is_states = is_states;
+      },
+      whole,
+    )
 
 pub header_sound : (text : List ℕ) (header : Header) (rest : List ℕ) → header_at text ≡ Some (header, rest)
     → (front : List ℕ) × IsHeader front header.initial header.transitions header.states × (text ≡ front ++ rest)
@@ -25,32 +52,15 @@ header_sound text header rest e =
     let second = bind_some (comma_at transitions.0.1) _ (header, rest) transitions.2 in
     let states = bind_some (number_at second.0) _ (header, rest) second.2 in
     let end = bind_some (after (41 ∷ 10 ∷ []) states.0.1) _ (header, rest) states.2 in
+    let o = after_sound (codes "des (") text opened.0 opened.1 in
     let i = number_sound opened.0 initial.0.0 initial.0.1 initial.1 in
     let c = comma_sound initial.0.1 first.0 first.1 in
     let t = number_sound first.0 transitions.0.0 transitions.0.1 transitions.1 in
     let d = comma_sound transitions.0.1 second.0 second.1 in
     let s = number_sound second.0 states.0.0 states.0.1 states.1 in
     let z = after_sound (41 ∷ 10 ∷ []) states.0.1 end.0 end.1 in
-    let o = after_sound (codes "des (") text opened.0 opened.1 in
-    let found : (record { initial = initial.0.0; transitions = transitions.0.0; states = states.0.0 }, end.0) ≡ (header, rest) = some_same _ _ end.2 in
-    let same_header = ap (λ p. p.0) found in
-    let same_rest : end.0 ≡ rest = ap (λ p. p.1) found in (
-      codes "des (" ++ i.0 ++ c.0 ++ t.0 ++ d.0 ++ s.0 ++ 41 ∷ 10 ∷ [],
-      record {
-        initial_text = i.0;
-        first_comma = c.0;
-        transitions_text = t.0;
-        second_comma = d.0;
-        states_text = s.0;
-        whole = refl;
-        is_initial = subst (IsShortNumber i.0) (ap (λ h. h.initial) same_header) i.1;
-        is_first_comma = c.1;
-        is_transitions = subst (IsShortNumber t.0) (ap (λ h. h.transitions) same_header) t.1;
-        is_second_comma = d.1;
-        is_states = subst (IsShortNumber s.0) (ap (λ h. h.states) same_header) s.1;
-      },
-      joined text (codes "des (") opened.0 i.0 initial.0.1 c.0 first.0 t.0 transitions.0.1 d.0 second.0 s.0 states.0.1 (41 ∷ 10 ∷ []) rest o i.2 c.2 t.2 d.2 s.2 (z ∙ ap (λ l. 41 ∷ 10 ∷ l) same_rest),
-    )
+    let whole = joined text (codes "des (") opened.0 i.0 initial.0.1 c.0 first.0 t.0 transitions.0.1 d.0 second.0 s.0 states.0.1 (41 ∷ 10 ∷ []) end.0 o i.2 c.2 t.2 d.2 s.2 z in
+    header_of text end.0 initial.0.0 transitions.0.0 states.0.0 i.0 c.0 t.0 d.0 s.0 header rest i.1 c.1 t.1 d.1 s.1 whole end.2
 
 pub header_complete : (front : List ℕ) (initial transitions states : ℕ) (rest : List ℕ) → IsHeader front initial transitions states
     → header_at (front ++ rest) ≡ Some (record { initial = initial; transitions = transitions; states = states }, rest)

@@ -1,10 +1,10 @@
 -- What is read as a line is one, and each line is read.
 use Rattle.std.proofs.Common.{◌≡◌, ◌∙◌, ℕ, List, [], ◌∷◌, ◌++◌, refl, ap, subst, arith}
-use Rattle.std.specs.Prelude.{Some, None, nat_eq, true, false, codes}
+use Rattle.std.specs.Prelude.{Option, Some, None, nat_eq, true, false, codes}
 use Rattle.std.specs.Char.{is_ascii_alphanumeric}
 use Rattle.std.proofs.lemmas.Grind.{common_steps}
 use Rattle.spectro_spec.specs.System.{Step}
-use Rattle.spectro_aut.specs.Grammar.{IsLine}
+use Rattle.spectro_aut.specs.Grammar.{IsShortNumber, IsComma, IsLine}
 use Rattle.spectro_aut.specs.PlainLabels.{IsPlainLabel, plain_label_at}
 use Rattle.spectro_aut.specs.Reading.{after, comma_at, number_at, line_at}
 use Rattle.spectro_aut.proofs.Fronts.{bind_some, some_same, after_sound, comma_sound, comma_complete, digit_count-comma, plain_length-comma}
@@ -20,6 +20,30 @@ after_label (byte ∷ label) rest plain =
     let other : nat_eq byte 32 ≡ false = grind (arith, common_steps, letter) in
     rw other refl
 
+-- the parts of a line, in order before what is left
+line_of : (text last : List ℕ) (source target : ℕ) (label source_text first_comma second_comma target_text : List ℕ) (step : Step) (rest : List ℕ)
+    → IsShortNumber source_text source → IsComma first_comma → IsPlainLabel label → IsComma second_comma → IsShortNumber target_text target
+    → text ≡ (codes "(" ++ source_text ++ first_comma ++ label ++ second_comma ++ target_text ++ 41 ∷ 10 ∷ []) ++ last
+    → ◌≡◌ {A = Option (Step × List ℕ)} (Some (record { source = source; label = label; target = target }, last)) (Some (step, rest)) → (line : List ℕ) × IsLine line step × (text ≡ line ++ rest)
+line_of text last source target label s c d t step rest is_source is_first is_label is_second is_target whole read =
+    let P : Step × List ℕ → Type 0 = λ parts. (line : List ℕ) × IsLine line parts.0 × (text ≡ line ++ parts.1) in
+    subst P (some_same (record { source = source; label = label; target = target }, last) (step, rest) read) (
+      codes "(" ++ s ++ c ++ label ++ d ++ t ++ 41 ∷ 10 ∷ [],
+      record {
+        source_text = s;
+        first_comma = c;
+        second_comma = d;
+        target_text = t;
+        whole = refl;
+        is_source = is_source;
+        is_first_comma = is_first;
+        is_label = is_label;
+        is_second_comma = is_second;
+        is_target = is_target;
+      },
+      whole,
+    )
+
 pub line_sound : (text : List ℕ) (step : Step) (rest : List ℕ) → line_at text ≡ Some (step, rest) → (line : List ℕ) × IsLine line step × (text ≡ line ++ rest)
 unfolding line_at
 line_sound text step rest e =
@@ -30,32 +54,15 @@ line_sound text step rest e =
     let second = bind_some (comma_at label.0.1) _ (step, rest) label.2 in
     let target = bind_some (number_at second.0) _ (step, rest) second.2 in
     let end = bind_some (after (41 ∷ 10 ∷ []) target.0.1) _ (step, rest) target.2 in
+    let o = after_sound (codes "(") text opened.0 opened.1 in
     let s = number_sound opened.0 source.0.0 source.0.1 source.1 in
     let c = comma_sound source.0.1 first.0 first.1 in
     let l = plain_label_sound first.0 label.0.0 label.0.1 label.1 in
     let d = comma_sound label.0.1 second.0 second.1 in
     let t = number_sound second.0 target.0.0 target.0.1 target.1 in
     let z = after_sound (41 ∷ 10 ∷ []) target.0.1 end.0 end.1 in
-    let o = after_sound (codes "(") text opened.0 opened.1 in
-    let found : (record { source = source.0.0; label = label.0.0; target = target.0.0 }, end.0) ≡ (step, rest) = some_same _ _ end.2 in
-    let same_step = ap (λ p. p.0) found in
-    let same_rest : end.0 ≡ rest = ap (λ p. p.1) found in
-    let front : List ℕ = codes "(" ++ s.0 ++ c.0 ++ label.0.0 ++ d.0 ++ t.0 ++ 41 ∷ 10 ∷ [] in (
-      front,
-      subst (IsLine front) same_step (record {
-        source_text = s.0;
-        first_comma = c.0;
-        second_comma = d.0;
-        target_text = t.0;
-        whole = refl;
-        is_source = s.1;
-        is_first_comma = c.1;
-        is_label = l.0;
-        is_second_comma = d.1;
-        is_target = t.1;
-      }),
-      joined text (codes "(") opened.0 s.0 source.0.1 c.0 first.0 label.0.0 label.0.1 d.0 second.0 t.0 target.0.1 (41 ∷ 10 ∷ []) rest o s.2 c.2 l.1 d.2 t.2 (z ∙ ap (λ l. 41 ∷ 10 ∷ l) same_rest),
-    )
+    let whole = joined text (codes "(") opened.0 s.0 source.0.1 c.0 first.0 label.0.0 label.0.1 d.0 second.0 t.0 target.0.1 (41 ∷ 10 ∷ []) end.0 o s.2 c.2 l.1 d.2 t.2 z in
+    line_of text end.0 source.0.0 target.0.0 label.0.0 s.0 c.0 d.0 t.0 step rest s.1 c.1 l.0 d.1 t.1 whole end.2
 
 pub line_complete : (line : List ℕ) (step : Step) (rest : List ℕ) → IsLine line step → line_at (line ++ rest) ≡ Some (step, rest)
 unfolding line_at

@@ -23,7 +23,7 @@ pub fn read(alloc: Global, bytes: &[u8]) -> Result<Lts, AutError>
             line: 1,
             kind: AutKind::NotPlain,
         })),
-        Err(_) => Err(AutError::OutOfMemory),
+        Err(AllocError) => Err(AutError::OutOfMemory),
     }
 }
 
@@ -78,3 +78,6 @@ fn step_at<'a>(lts: &mut Lts, text: &'a [u8]) -> Result<Option<&'a [u8]>, AllocE
     }
     Ok(Some(rest))
 }
+
+#[cfg(test)]
+mod tests;
