@@ -1,0 +1,4 @@
+pub mod Numbering
+pub mod Prices
+pub mod Truths
+pub mod Rows

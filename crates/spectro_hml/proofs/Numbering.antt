@@ -1,0 +1,109 @@
+-- Labels of steps by number: each has one number.
+use Rattle.std.proofs.Common.{◌≡◌, ◌∙◌, ◌⊎◌, inl, inr, ℕ, ◌<◌, ◌≤◌, nat_lt, Bool, true, false, suc, zero, List, [], ◌∷◌, length, map, Contains, slice_get, position, Some, None, refl, sym, ap, subst, arith}
+use Rattle.std.specs.List.{list_any, IsDistinct, position_or_len}
+use Rattle.std.specs.Str.{bytes_eq}
+use Rattle.std.proofs.Math.ListN.{get_or}
+use Rattle.std.proofs.lemmas.Bool.{cases_lt}
+use Rattle.std.proofs.lemmas.Cmp.{nat_list_eq_equiv}
+use Rattle.std.proofs.lemmas.Grind.{common_steps}
+use Rattle.std.proofs.lemmas.List.Elements.{Contains-append_left}
+use Rattle.std.proofs.lemmas.List.Quantifiers.{position-Some}
+use Rattle.std.proofs.lemmas.List.Sums.{fails_before_first}
+use Rattle.std.proofs.lemmas.Map.Keys.{IsDistinct-push, apart_from_distinct}
+use Rattle.std.proofs.lemmas.Option.{slice_get_within, get_or_from_slice_get, slice_get-get_or, slice_get-map}
+use Rattle.std.proofs.lemmas.Slice.Eq.{bytes_eq-Decides}
+use Rattle.indexmap.specs.IndexSet.{insert_key, insert_all}
+use Rattle.indexmap.proofs.CallerLemmas.{Contains-insert_key}
+use Rattle.spectro_spec.specs.System.{Label, Step}
+use Rattle.spectro_aut.specs.Labels.{labels_of}
+
+same_bytes : (text other : List ℕ) → bytes_eq text other ≡ true → text ≡ other
+same_bytes text other e = (bytes_eq-Decides text other).0 e
+
+bytes_eq-same : (text other : List ℕ) → text ≡ other → bytes_eq text other ≡ true
+bytes_eq-same text other e = (bytes_eq-Decides text other).1 e
+
+-- ---- labels that are put in, one by one
+IsDistinct-insert_key : (labels : List Label) (label : Label) → IsDistinct bytes_eq labels → IsDistinct bytes_eq (insert_key bytes_eq labels label)
+IsDistinct-insert_key labels label distinct = by (list_any (bytes_eq label) labels) refl
+  where
+    by : (b : Bool) → list_any (bytes_eq label) labels ≡ b → IsDistinct bytes_eq (insert_key bytes_eq labels label)
+    by true there = rw there distinct
+    by false new = rw new (IsDistinct-push nat_list_eq_equiv labels label distinct new)
+
+IsDistinct-insert_all : (labels more : List Label) → IsDistinct bytes_eq labels → IsDistinct bytes_eq (insert_all bytes_eq labels more)
+IsDistinct-insert_all labels [] distinct = distinct
+IsDistinct-insert_all labels (label ∷ more) distinct = IsDistinct-insert_all (insert_key bytes_eq labels label) more (IsDistinct-insert_key labels label distinct)
+
+insert_key-keeps : (labels : List Label) (label other : Label) → Contains labels other → Contains (insert_key bytes_eq labels label) other
+insert_key-keeps labels label other here = by (list_any (bytes_eq label) labels) refl
+  where
+    by : (b : Bool) → list_any (bytes_eq label) labels ≡ b → Contains (insert_key bytes_eq labels label) other
+    by true there = rw there here
+    by false new = rw new (Contains-append_left labels (label ∷ []) other here)
+
+insert_all-keeps : (labels more : List Label) (other : Label) → Contains labels other → Contains (insert_all bytes_eq labels more) other
+insert_all-keeps labels [] other here = here
+insert_all-keeps labels (label ∷ more) other here = insert_all-keeps (insert_key bytes_eq labels label) more other (insert_key-keeps labels label other here)
+
+insert_all-has : (labels more : List Label) (place : ℕ) (other : Label) → slice_get more place ≡ Some other → Contains (insert_all bytes_eq labels more) other
+insert_all-has labels [] place other found = cc
+insert_all-has labels (label ∷ more) zero other found =
+    let same : label ≡ other = cc in
+    insert_all-keeps (insert_key bytes_eq labels label) more other (subst (Contains (insert_key bytes_eq labels label)) same (Contains-insert_key bytes_eq same_bytes labels label))
+insert_all-has labels (label ∷ more) (suc place) other found = insert_all-has (insert_key bytes_eq labels label) more place other found
+
+-- ---- labels of steps
+labels_of-has : (steps : List Step) (step : Step) → Contains steps step → Contains (labels_of steps) step.label
+labels_of-has steps step (place, within, at) =
+    let found : slice_get steps place ≡ Some step = slice_get-get_or steps place step within ∙ ap Some at in
+    insert_all-has [] (map (λ step. step.label) steps) place step.label (slice_get-map (λ (step : Step). step.label) steps place ∙ rw found refl)
+
+none_passes : (labels : List Label) (label : Label) → position (bytes_eq label) labels ≡ None → Contains labels label → ⊥
+none_passes labels label none (place, within, at) = by (cases_lt (position_or_len (bytes_eq label) labels) (length labels))
+  where
+    by : (position_or_len (bytes_eq label) labels < length labels) ⊎ (length labels ≤ position_or_len (bytes_eq label) labels) → ⊥
+    by (inl inside) = let test : nat_lt (position_or_len (bytes_eq label) labels) (length labels) ≡ true = grind (arith, common_steps) in let some = rw test at none in cc
+    by (inr past) =
+        let fails = fails_before_first (bytes_eq label) labels place label (omega arith) in
+        let passes = bytes_eq-same label (get_or labels place label) (sym at) in cc
+
+-- a label with no number is that of no step
+pub no_step_has : (steps : List Step) (label : Label) (step : Step) → position (bytes_eq label) (labels_of steps) ≡ None → step.label ≡ label → ¬ Contains steps step
+no_step_has steps label step none same here = none_passes (labels_of steps) label none (subst (Contains (labels_of steps)) same (labels_of-has steps step here))
+
+found_label : (labels : List Label) (label : Label) (label_no : ℕ) → position (bytes_eq label) labels ≡ Some label_no → slice_get labels label_no ≡ Some label
+found_label labels label label_no e =
+    let at = position-Some (bytes_eq label) labels label_no [] e in
+    slice_get-get_or labels label_no [] at.0 ∙ ap Some (sym (same_bytes label (get_or labels label_no []) at.1))
+
+apart : (labels : List Label) (label : Label) (i j : ℕ) → IsDistinct bytes_eq labels → slice_get labels i ≡ Some label → slice_get labels j ≡ Some label → i < j → ⊥
+apart labels label i j distinct at_i at_j less =
+    let differ = apart_from_distinct bytes_eq labels i j [] distinct less (slice_get_within labels j label at_j) in
+    let same = bytes_eq-same (get_or labels i []) (get_or labels j []) (get_or_from_slice_get labels i label [] at_i ∙ sym (get_or_from_slice_get labels j label [] at_j)) in
+    cc
+
+one_number : (labels : List Label) (label : Label) (i j : ℕ) → IsDistinct bytes_eq labels → slice_get labels i ≡ Some label → slice_get labels j ≡ Some label → i ≡ j
+one_number labels label i j distinct at_i at_j = by (cases_lt i j) (cases_lt j i)
+  where
+    by : (i < j) ⊎ (j ≤ i) → (j < i) ⊎ (i ≤ j) → i ≡ j
+    by (inl less) other = absurd (apart labels label i j distinct at_i at_j less)
+    by (inr least) (inl less) = absurd (apart labels label j i distinct at_j at_i less)
+    by (inr least) (inr most) = omega arith
+
+no_label : IsDistinct bytes_eq []
+unfolding IsDistinct
+no_label = tt
+
+-- labels of steps are the same exactly where their numbers are
+pub label_from_number : (steps : List Step) (label other : Label) (label_no number : ℕ) → position (bytes_eq label) (labels_of steps) ≡ Some label_no → slice_get (labels_of steps) number ≡ Some other → number ≡ label_no → other ≡ label
+label_from_number steps label other label_no number known at same =
+    let found = found_label (labels_of steps) label label_no known in
+    let here : slice_get (labels_of steps) label_no ≡ Some other = subst (λ place. slice_get (labels_of steps) place ≡ Some other) same at in
+    cc
+
+pub number_from_label : (steps : List Step) (label other : Label) (label_no number : ℕ) → position (bytes_eq label) (labels_of steps) ≡ Some label_no → slice_get (labels_of steps) number ≡ Some other → other ≡ label → number ≡ label_no
+number_from_label steps label other label_no number known at same =
+    let found = found_label (labels_of steps) label label_no known in
+    let distinct = IsDistinct-insert_all [] (map (λ step. step.label) steps) no_label in
+    one_number (labels_of steps) label number label_no distinct (at ∙ ap Some same) found

@@ -1,0 +1,60 @@
+ghost use Rattle.std.specs.Prelude.{◌≡◌, List, map, string_bytes, IfOk, IfErr, MatchOption};
+ghost use Rattle.std.specs.Option.{option_map};
+ghost use Rattle.spectro_spec.specs.System.{Label};
+ghost use Rattle.spectro_hml.specs.Faults.{IsRefused};
+ghost use Rattle.spectro_hml.specs.Grammar.{IsPlainFormula};
+ghost use Rattle.spectro_hml.specs.Reading.{observation_at};
+
+use crate::{Chain, ParseError, TextFault, TextKind};
+use spectro_aut::plain_label_at;
+use std::alloc::{AllocError, Global};
+
+/// How many observations a plain formula has at most.
+const MAX_OBSERVATIONS: usize = 255;
+
+/// The chain of a plain formula text: a row of at most 255 observations `<"LABEL">`, and then `tt`,
+/// where a label is one to 64 ASCII letters and digits.
+pub fn parse_plain(alloc: Global, text: &str) -> Result<Chain, ParseError>
+    ensures ok { IfOk result (IsPlainFormula text.now) }
+    ensures refused { IfErr result (IsRefused text.now) }
+{
+    match row_of(alloc, text.as_bytes()) {
+        Ok(Some(labels)) => Ok(Chain::new(labels)),
+        Ok(None) => Err(ParseError::Text(TextFault {
+            at: 0,
+            kind: TextKind::NotPlain,
+        })),
+        Err(_) => Err(ParseError::OutOfMemory),
+    }
+}
+
+// The labels of a plain formula text, and `None` where the text is of no chain.
+fn row_of(alloc: Global, text: &[u8]) -> Result<Option<Vec<String>>, AllocError>
+    ensures { IfOk result (λ row. MatchOption row ((labels : List Label) → ¬ IsPlainFormula text.now labels) (λ labels. IsPlainFormula text.now (map string_bytes labels.items))) }
+{
+    let mut labels = Vec::new(alloc);
+    let mut rest = text;
+    'row: while labels.len() < MAX_OBSERVATIONS {
+        let Some((label, left)) = observation_at(rest) else {
+            break;
+        };
+        labels.push(String::from_str(alloc, label)?)?;
+        rest = left;
+    }
+    if rest == b"tt".as_slice() {
+        Ok(Some(labels))
+    } else {
+        Ok(None)
+    }
+}
+
+// The label of the observation at the front of the text, and what is left after it.
+#[tactic(auto, unfolding(crate::specs::Reading::observation_at))]
+fn observation_at(text: &[u8]) -> Option<(&str, &[u8])>
+    ensures { option_map (λ read. (read.0.now, read.1.now)) result ≡ observation_at text.now }
+{
+    let rest = text.strip_prefix(b"<\"")?;
+    let (label, rest) = plain_label_at(rest)?;
+    let rest = rest.strip_prefix(b"\">")?;
+    Some((label, rest))
+}

@@ -1,0 +1,73 @@
+ghost use Rattle.std.specs.Prelude.{◌≡◌, ◌<◌, ◌↔◌, length, map, string_bytes, IsTrue};
+ghost use Rattle.spectro_spec.specs.System.{IsWhole};
+ghost use Rattle.spectro_spec.specs.Formula.{Satisfies};
+ghost use Rattle.spectro_hml.specs.Chain.{formula_of};
+ghost use Rattle.spectro_hml.specs.Truth.{AreTruths, IsBefore};
+
+use crate::Chain;
+use spectro_aut::Lts;
+
+// The greatest number of states.
+const MAX_STATES: usize = 131_072;
+
+/// Whether the chain's formula is true at the state.
+pub fn chain_truth(lts: &Lts, chain: &Chain, state: u32) -> bool
+    requires { state < lts.now.states }
+    ensures { IsTrue result ↔ Satisfies lts.now state (formula_of chain.now) }
+{
+    let mut table = [false; MAX_STATES];
+    let mut spare = [false; MAX_STATES];
+    is_true_at(lts, chain.labels(), state, &mut table, &mut spare)
+}
+
+// Whether the formula of the labels is true at the state. What the tables have before has no part in it.
+fn is_true_at(
+    lts: &Lts,
+    labels: &[String],
+    state: u32,
+    table: &mut [bool],
+    spare: &mut [bool],
+) -> bool
+    requires state { state < lts.now.states }
+    requires table { length table.old ≡ MAX_STATES }
+    requires spare { length spare.old ≡ MAX_STATES }
+    ensures { IsTrue result ↔ Satisfies lts.now state (formula_of (map string_bytes labels.now)) }
+{
+    let states = lts.states() as usize;
+    let table = &mut table[..states];
+    tell(lts, labels, table, &mut spare[..states]);
+    table[state as usize]
+}
+
+// Writes into the table at which states the formula of the labels is true.
+fn tell(lts: &Lts, labels: &[String], table: &mut [bool], spare: &mut [bool])
+    requires whole { IsWhole lts.now }
+    requires table { length table.old ≡ lts.now.states }
+    requires spare { length spare.old ≡ lts.now.states }
+    ensures { AreTruths lts.now (formula_of (map string_bytes labels.now)) table.new }
+{
+    let [label, rest @ ..] = labels else {
+        table.fill(true);
+        return;
+    };
+    tell(lts, rest, spare, table);
+    step_back(lts, label.as_str(), spare, table);
+}
+
+// Writes into the second table from which states a step under the label leads to where the first is true.
+fn step_back(lts: &Lts, label: &str, table: &[bool], before: &mut [bool])
+    requires table { length table.now ≡ lts.now.states }
+    requires before { length before.old ≡ lts.now.states }
+    ensures { IsBefore lts.now.steps label.now table.now before.new }
+{
+    before.fill(false);
+    let Some(no) = lts.label_no(label) else {
+        return;
+    };
+    for k in 0..lts.step_count() {
+        let step = lts.step(k);
+        if step.label == no && table[step.to as usize] {
+            before[step.from as usize] = true;
+        }
+    }
+}
