@@ -70,27 +70,6 @@ before_skipped steps step label table before old other = record { leads = λ s w
 pub take_step : (steps : List Step) (k : ℕ) (step : Step) → slice_get steps k ≡ Some step → take (k + 1) steps ≡ take k steps ++ step ∷ []
 take_step steps k step at = take_more steps k step (slice_get_within steps k step at) ∙ ap (λ (last : Step). take k steps ++ last ∷ []) (get_or_from_slice_get steps k step step at)
 
--- ---- the truths of a formula
-pub truths_of_all : (system : System) (table : List Bool) → table ≡ replicate system.states true → AreTruths system (all no_clauses) table
-truths_of_all system table full = record {
-  whole = ap length full ∙ length-replicate system.states true;
-  truths = λ s within. (λ _. tt, λ _. ap (λ table. slice_index_or table s false) full ∙ get_or-replicate system.states s true false within);
-}
-
-target_within : (system : System) (s t : ℕ) (label : Label) → IsWhole system → Contains system.steps (record { source = s; label = label; target = t }) → t < system.states
-target_within system s t label whole here = All-contains (λ step. step.target < system.states) system.steps (record { source = s; label = label; target = t }) whole.targets here
-
-pub truths_of_see : (system : System) (label : Label) (formula : Formula) (table before : List Bool) → IsWhole system → AreTruths system formula table → IsBefore system.steps label table before → length before ≡ system.states
-    → AreTruths system (see label formula) before
-truths_of_see system label formula table before whole truths leads sized = record {
-  whole = sized;
-  truths = λ s within.
-      let inside : s < length before = omega arith in (
-        λ is. let (t, here, marked) = (leads.leads s inside).0 is in (t, here, (truths.truths t (target_within system s t label whole here)).0 marked),
-        λ (t, here, holds). (leads.leads s inside).1 (t, here, (truths.truths t (target_within system s t label whole here)).1 holds),
-      );
-}
-
 -- ---- one more step, by number
 pub more_marked : (steps : List Step) (k from number to : ℕ) (label : Label) (label_no : ℕ) (table before : List Bool) → IsStepAt steps k from number to → position (bytes_eq label) (labels_of steps) ≡ Some label_no
     → IsBefore (take k steps) label table before → number ≡ label_no → IsTrueAt table to → IsBefore (take (k + 1) steps) label table (slice_set before from true)

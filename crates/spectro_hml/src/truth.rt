@@ -35,12 +35,12 @@ fn is_true_at(
 {
     let states = lts.states() as usize;
     let table = &mut table[..states];
-    tell(lts, labels, table, &mut spare[..states]);
+    write_truths(lts, labels, table, &mut spare[..states]);
     table[state as usize]
 }
 
 // Writes into the table at which states the formula of the labels is true.
-fn tell(lts: &Lts, labels: &[String], table: &mut [bool], spare: &mut [bool])
+fn write_truths(lts: &Lts, labels: &[String], table: &mut [bool], spare: &mut [bool])
     requires whole { IsWhole lts.now }
     requires table { length table.old ≡ lts.now.states }
     requires spare { length spare.old ≡ lts.now.states }
@@ -50,12 +50,12 @@ fn tell(lts: &Lts, labels: &[String], table: &mut [bool], spare: &mut [bool])
         table.fill(true);
         return;
     };
-    tell(lts, rest, spare, table);
-    step_back(lts, label.as_str(), spare, table);
+    write_truths(lts, rest, spare, table);
+    write_sources(lts, label.as_str(), spare, table);
 }
 
-// Writes into the second table from which states a step under the label leads to where the first is true.
-fn step_back(lts: &Lts, label: &str, table: &[bool], before: &mut [bool])
+// Writes into the second table from which states a step under the label leads to where the first one is true.
+fn write_sources(lts: &Lts, label: &str, table: &[bool], before: &mut [bool])
     requires table { length table.now ≡ lts.now.states }
     requires before { length before.old ≡ lts.now.states }
     ensures { IsBefore lts.now.steps label.now table.now before.new }
