@@ -1,30 +1,16 @@
 -- Rows of observations, and the reader of their texts.
-use Rattle.std.proofs.Common.{◌≡◌, ◌∙◌, ◌⊎◌, inl, inr, ℕ, ◌<◌, ◌≤◌, List, [], ◌∷◌, ◌++◌, length, take, drop, refl, sym, ap, subst, arith, append_assoc, append-nil, length-append, take-append-drop, codes}
-use Rattle.std.specs.Prelude.{Option, Some, None, All}
-use Rattle.std.specs.Str.{bytes_eq}
+use Rattle.std.proofs.Common.{◌≡◌, ◌∙◌, ◌⊎◌, inl, inr, ℕ, ◌<◌, ◌≤◌, List, [], ◌∷◌, ◌++◌, length, refl, sym, ap, subst, arith, append_assoc, append-nil, length-append, codes}
+use Rattle.std.specs.Prelude.{Some, None, All}
 use Rattle.std.proofs.lemmas.List.Elements.{All-nil, All-push, All-head, All-tail}
-use Rattle.std.proofs.lemmas.Option.{cond_some}
-use Rattle.std.proofs.lemmas.Slice.Eq.{bytes_eq-Decides}
 use Rattle.spectro_spec.specs.System.{Label}
 use Rattle.spectro_aut.specs.PlainLabels.{IsPlainLabel, plain_label_at}
 use Rattle.spectro_aut.proofs.PlainLabelLaws.{plain_label_sound, plain_label_complete}
 use Rattle.spectro_hml.specs.Grammar.{IsPlainFormula, observation_text, row_text}
-use Rattle.spectro_hml.specs.Reading.{◌>>=◌, after, observation_at}
+use Rattle.spectro_aut.specs.Reading.{after}
+use Rattle.spectro_aut.proofs.Fronts.{bind_some, some_same, after_sound}
+use Rattle.spectro_hml.specs.Reading.{observation_at}
 
 -- ---- the observation at the front of a text
-bind_some : {A B : Type 0} (o : Option A) (f : A → Option B) (y : B) → o >>= f ≡ Some y → (x : A) × (o ≡ Some x) × (f x ≡ Some y)
-bind_some None f y e = cc
-bind_some (Some x) f y e = (x, refl, e)
-
-after_sound : (words text rest : List ℕ) → after words text ≡ Some rest → text ≡ words ++ rest
-after_sound words text rest e =
-    let made = cond_some (bytes_eq (take (length words) text) words) (drop (length words) text) rest e in
-    let front : take (length words) text ≡ words = (bytes_eq-Decides (take (length words) text) words).0 made.0 in
-    sym (take-append-drop (length words) text) ∙ ap (λ l. l ++ drop (length words) text) front ∙ ap (λ l. words ++ l) made.1
-
-some_same : {A : Type 0} (x y : A) → Some x ≡ Some y → x ≡ y
-some_same x y e = cc
-
 joined : (label rest : List ℕ) → codes "<\"" ++ (label ++ (codes "\">" ++ rest)) ≡ observation_text label ++ rest
 joined label rest = simp append_assoc
 

@@ -1,15 +1,14 @@
 -- Tables of truths, and how they grow by a step.
-use Rattle.std.proofs.Common.{◌≡◌, ◌∙◌, ◌⊎◌, inl, inr, ℕ, ◌+◌, ◌<◌, Bool, true, false, List, [], ◌∷◌, ◌++◌, length, take, replicate, Contains, slice_get, slice_index_or, slice_set, position, Some, None, refl, sym, ap, subst, arith}
+use Rattle.std.proofs.Common.{◌≡◌, ◌∙◌, ◌⊎◌, inl, inr, ℕ, ◌+◌, ◌<◌, Bool, true, false, List, [], ◌∷◌, ◌++◌, length, take, replicate, Contains, slice_get, slice_set, position, Some, None, refl, sym, ap, subst, arith}
 use Rattle.std.specs.Str.{bytes_eq}
 use Rattle.std.proofs.lemmas.Bool.{cases_eq}
 use Rattle.std.proofs.lemmas.Grind.{get_or-set_at}
 use Rattle.std.proofs.lemmas.List.{get_or-replicate, get_or-set_other, length-replicate, length-set, take_more}
-use Rattle.std.proofs.lemmas.List.Elements.{All-contains, Contains-append_left, Contains-push, Contains-push_cases}
+use Rattle.std.proofs.lemmas.List.Elements.{Contains-append_left, Contains-push, Contains-push_cases}
 use Rattle.std.proofs.lemmas.Option.{slice_get_within, get_or_from_slice_get}
-use Rattle.spectro_spec.specs.System.{Label, Step, System, IsWhole}
-use Rattle.spectro_spec.specs.Formula.{Formula, see, all, no_clauses}
+use Rattle.spectro_spec.specs.System.{Label, Step}
 use Rattle.spectro_aut.specs.Labels.{labels_of, IsStepAt}
-use Rattle.spectro_hml.specs.Truth.{IsTrueAt, LeadsToTrue, IsBefore, AreTruths}
+use Rattle.spectro_hml.specs.Truth.{IsTrueAt, LeadsToTrue, IsBefore}
 use Rattle.spectro_hml.proofs.Numbering.{no_step_has, label_from_number, number_from_label}
 
 -- a fresh table is false everywhere

@@ -108,7 +108,11 @@ mod tests {
             (1, 65, Some(NOT_PLAIN)),
         ] {
             let text = row_text(alloc, observations, label_bytes)?;
-            assert_eq!(rt; fault(alloc, text.as_str()), want, "{observations} of {label_bytes}");
+            assert_eq!(rt;
+                fault(alloc, text.as_str()),
+                want,
+                "{observations} of {label_bytes}"
+            );
         }
         Ok(())
     }

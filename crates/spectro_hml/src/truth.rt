@@ -71,3 +71,45 @@ fn write_sources(lts: &Lts, label: &str, table: &[bool], before: &mut [bool])
         }
     }
 }
+
+#[cfg(test)]
+mod tests {
+    use super::*;
+    use crate::parse_plain;
+    use spectro_aut::read;
+    use std::alloc::Global;
+
+    // Two equal steps under `a`, of which neither goes on, before one to a state that goes on by `b`.
+    const DEAD_ENDS: &[u8] = b"des (0,4,4)\n(0,a,1)\n(0,a,1)\n(0,a,2)\n(2,b,3)\n";
+
+    #[test]
+    fn follows_each_matching_step(rt: HostRuntime) {
+        let alloc = rt.alloc();
+        for (formula, state, want) in [
+            ("tt", 1, true),
+            ("<\"a\">tt", 0, true),
+            ("<\"a\">tt", 1, false),
+            ("<\"a\"><\"b\">tt", 0, true),
+            ("<\"b\"><\"a\">tt", 0, false),
+            ("<\"a\"><\"b\"><\"b\">tt", 0, false),
+            ("<\"c\">tt", 0, false),
+        ] {
+            assert_eq!(rt;
+                truth(alloc, formula, state),
+                Some(want),
+                "{formula} at {state}"
+            );
+        }
+    }
+
+    // Whether the formula is true at the state, where there is memory.
+    fn truth(alloc: Global, formula: &str, state: u32) -> Option<bool> {
+        let lts = read(alloc, DEAD_ENDS).ok()?;
+        let chain = parse_plain(alloc, formula).ok()?;
+        if state < lts.states() {
+            Some(chain_truth(&lts, &chain, state))
+        } else {
+            None
+        }
+    }
+}
