@@ -7,7 +7,7 @@ ghost use Rattle.spectro_hml.specs.Truth.{AreTruths, IsBefore};
 use crate::Chain;
 use spectro_aut::Lts;
 
-// The greatest number of states.
+/// The greatest number of states.
 const MAX_STATES: usize = 131_072;
 
 /// Whether the chain's formula is true at the state.
