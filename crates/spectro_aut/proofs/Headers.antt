@@ -2,9 +2,12 @@
 use Rattle.std.proofs.Common.{◌≡◌, ◌∙◌, ℕ, List, [], ◌∷◌, ◌++◌, refl, ap, subst, append_assoc}
 use Rattle.std.specs.Prelude.{Option, Some, codes}
 use Rattle.spectro_aut.specs.Grammar.{IsShortNumber, IsComma, IsHeader}
-use Rattle.spectro_aut.specs.Reading.{after, comma_at, number_at, header_at}
+use Rattle.spectro_aut.specs.Reading.{comma_at, number_at, header_at}
+use Rattle.spectro_io.specs.Fronts.{after}
 use Rattle.spectro_aut.specs.declared.header.Header.{Header}
-use Rattle.spectro_aut.proofs.Fronts.{bind_some, some_same, after_sound, comma_sound, comma_complete, digit_count-comma}
+use Rattle.spectro_io.proofs.Fronts.{bind_some, after_sound}
+use Rattle.std.proofs.lemmas.Option.{same_Some}
+use Rattle.spectro_aut.proofs.Commas.{comma_sound, comma_complete, digit_count-comma}
 use Rattle.spectro_aut.proofs.Numbers.{number_sound, number_complete, after_blank}
 
 -- texts one after another are one text
@@ -23,7 +26,7 @@ header_of : (text last : List ℕ) (initial transitions states : ℕ) (initial_t
     → (front : List ℕ) × IsHeader front header.initial header.transitions header.states × (text ≡ front ++ rest)
 header_of text last initial transitions states i c t d s header rest is_initial is_first is_transitions is_second is_states whole read =
     let P : Header × List ℕ → Type 0 = λ parts. (front : List ℕ) × IsHeader front parts.0.initial parts.0.transitions parts.0.states × (text ≡ front ++ parts.1) in
-    subst P (some_same (record { initial = initial; transitions = transitions; states = states }, last) (header, rest) read) (
+    subst P (same_Some (record { initial = initial; transitions = transitions; states = states }, last) (header, rest) read) (
       codes "des (" ++ i ++ c ++ t ++ d ++ s ++ 41 ∷ 10 ∷ [],
       record {
         initial_text = i;

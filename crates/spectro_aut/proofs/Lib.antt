@@ -1,6 +1,6 @@
 pub mod Numbering
 pub mod PlainLabelLaws
-pub mod Fronts
+pub mod Commas
 pub mod Numbers
 pub mod Headers
 pub mod Lines

@@ -6,8 +6,11 @@ use Rattle.std.proofs.lemmas.Grind.{common_steps}
 use Rattle.spectro_spec.specs.System.{Step}
 use Rattle.spectro_aut.specs.Grammar.{IsShortNumber, IsComma, IsLine}
 use Rattle.spectro_aut.specs.PlainLabels.{IsPlainLabel, plain_label_at}
-use Rattle.spectro_aut.specs.Reading.{after, comma_at, number_at, line_at}
-use Rattle.spectro_aut.proofs.Fronts.{bind_some, some_same, after_sound, comma_sound, comma_complete, digit_count-comma, plain_length-comma}
+use Rattle.spectro_aut.specs.Reading.{comma_at, number_at, line_at}
+use Rattle.spectro_io.specs.Fronts.{after}
+use Rattle.spectro_io.proofs.Fronts.{bind_some, after_sound}
+use Rattle.std.proofs.lemmas.Option.{same_Some}
+use Rattle.spectro_aut.proofs.Commas.{comma_sound, comma_complete, digit_count-comma, plain_length-comma}
 use Rattle.spectro_aut.proofs.Headers.{joined, regroup}
 use Rattle.spectro_aut.proofs.Numbers.{number_sound, number_complete, after_blank}
 use Rattle.spectro_aut.proofs.PlainLabelLaws.{plain_label_sound, plain_label_complete}
@@ -27,7 +30,7 @@ line_of : (text last : List ℕ) (source target : ℕ) (label source_text first_
     → ◌≡◌ {A = Option (Step × List ℕ)} (Some (record { source = source; label = label; target = target }, last)) (Some (step, rest)) → (line : List ℕ) × IsLine line step × (text ≡ line ++ rest)
 line_of text last source target label s c d t step rest is_source is_first is_label is_second is_target whole read =
     let P : Step × List ℕ → Type 0 = λ parts. (line : List ℕ) × IsLine line parts.0 × (text ≡ line ++ parts.1) in
-    subst P (some_same (record { source = source; label = label; target = target }, last) (step, rest) read) (
+    subst P (same_Some (record { source = source; label = label; target = target }, last) (step, rest) read) (
       codes "(" ++ s ++ c ++ label ++ d ++ t ++ 41 ∷ 10 ∷ [],
       record {
         source_text = s;

@@ -10,8 +10,8 @@ use Rattle.std.proofs.Math.Nat.{mul-le-mul_right, pow-le-pow_right, pow-suc}
 use Rattle.std.proofs.Math.Seq.{take-append_seam, drop-append_seam}
 use Rattle.spectro_io.specs.Numbers.{number_value, is_number, number_of}
 use Rattle.spectro_aut.specs.Grammar.{IsShortNumber}
-use Rattle.spectro_aut.specs.Reading.{after, digit_count, number_at}
-use Rattle.spectro_aut.proofs.Fronts.{bind_some, cond_else}
+use Rattle.spectro_aut.specs.Reading.{digit_count, number_at}
+use Rattle.spectro_io.proofs.Fronts.{bind_some, cond_else}
 use Rattle.spectro_aut.proofs.PlainLabelLaws.{prefix_len-front}
 
 digit_small : (byte : ℕ) → is_ascii_digit byte ≡ true → byte ≤ 57

@@ -14,7 +14,7 @@ use Rattle.spectro_spec.specs.System.{System, Step, Label, IsWhole}
 use Rattle.spectro_aut.specs.Labels.{labels_of}
 use Rattle.spectro_aut.specs.Grammar.{IsLine, AreLines}
 use Rattle.spectro_aut.specs.Reading.{line_at, with_step, step_at, steps_at, is_nil}
-use Rattle.spectro_aut.proofs.Fronts.{bind_some}
+use Rattle.spectro_io.proofs.Fronts.{bind_some}
 use Rattle.spectro_aut.proofs.Lines.{line_sound, line_complete}
 
 -- the system with more steps

@@ -7,7 +7,7 @@ use Rattle.spectro_aut.specs.Labels.{labels_of}
 use Rattle.spectro_aut.specs.Grammar.{IsHeader, IsPlainText}
 use Rattle.spectro_aut.specs.Reading.{header_at, steps_at, is_within, system_at}
 use Rattle.spectro_aut.specs.declared.header.Header.{Header}
-use Rattle.spectro_aut.proofs.Fronts.{bind_some}
+use Rattle.spectro_io.proofs.Fronts.{bind_some}
 use Rattle.spectro_aut.proofs.Headers.{header_sound, header_complete}
 use Rattle.spectro_aut.proofs.Steps.{TakesSteps, steps_sound, steps_complete}
 

@@ -3,21 +3,12 @@ use Rattle.std.specs.Prelude.{ℕ, zero, suc, ◌^◌, ◌&&◌, Bool, true, fal
 use Rattle.std.specs.Str.{bytes_eq}
 use Rattle.std.specs.Char.{is_ascii_digit}
 use Rattle.std.specs.List.{prefix_len}
+use Rattle.spectro_io.specs.Fronts.{◌>>=◌, after}
 use Rattle.spectro_io.specs.Numbers.{number_of}
 use Rattle.spectro_spec.specs.System.{System, Step}
 use Rattle.spectro_aut.specs.Labels.{labels_of}
 use Rattle.spectro_aut.specs.PlainLabels.{plain_label_at}
 use Rattle.spectro_aut.specs.declared.header.Header.{Header}
-
--- the second reading from what the first one read
-infixl 10 ◌>>=◌
-abbrev pub ◌>>=◌ : {A B : Type 0} → Option A → (A → Option B) → Option B
-None >>= f = None
-(Some x) >>= f = f x
-
--- what is left after the words, where the text begins with them
-abbrev pub after : List ℕ → List ℕ → Option (List ℕ)
-after words text = if bytes_eq (take (length words) text) words then Some (drop (length words) text) else None
 
 -- what is left after a comma, and after a space behind it
 unfoldable pub comma_at : List ℕ → Option (List ℕ)

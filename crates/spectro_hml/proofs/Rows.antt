@@ -1,30 +1,17 @@
 -- Rows of observations, and the reader of their texts.
-use Rattle.std.proofs.Common.{◌≡◌, ◌∙◌, ◌⊎◌, inl, inr, ℕ, ◌<◌, ◌≤◌, List, [], ◌∷◌, ◌++◌, length, take, drop, refl, sym, ap, subst, arith, append_assoc, append-nil, length-append, take-append-drop, codes}
-use Rattle.std.specs.Prelude.{Option, Some, None, All}
-use Rattle.std.specs.Str.{bytes_eq}
+use Rattle.std.proofs.Common.{◌≡◌, ◌∙◌, ◌⊎◌, inl, inr, ℕ, ◌<◌, ◌≤◌, List, [], ◌∷◌, ◌++◌, length, refl, sym, ap, subst, arith, append_assoc, append-nil, length-append, codes}
+use Rattle.std.specs.Prelude.{Some, None, All}
 use Rattle.std.proofs.lemmas.List.Elements.{All-nil, All-push, All-head, All-tail}
-use Rattle.std.proofs.lemmas.Option.{cond_some}
-use Rattle.std.proofs.lemmas.Slice.Eq.{bytes_eq-Decides}
 use Rattle.spectro_spec.specs.System.{Label}
 use Rattle.spectro_aut.specs.PlainLabels.{IsPlainLabel, plain_label_at}
 use Rattle.spectro_aut.proofs.PlainLabelLaws.{plain_label_sound, plain_label_complete}
 use Rattle.spectro_hml.specs.Grammar.{IsPlainFormula, observation_text, row_text}
-use Rattle.spectro_hml.specs.Reading.{◌>>=◌, after, observation_at}
+use Rattle.spectro_io.specs.Fronts.{after}
+use Rattle.spectro_io.proofs.Fronts.{bind_some, after_sound}
+use Rattle.std.proofs.lemmas.Option.{same_Some}
+use Rattle.spectro_hml.specs.Reading.{observation_at}
 
 -- ---- the observation at the front of a text
-bind_some : {A B : Type 0} (o : Option A) (f : A → Option B) (y : B) → o >>= f ≡ Some y → (x : A) × (o ≡ Some x) × (f x ≡ Some y)
-bind_some None f y e = cc
-bind_some (Some x) f y e = (x, refl, e)
-
-after_sound : (words text rest : List ℕ) → after words text ≡ Some rest → text ≡ words ++ rest
-after_sound words text rest e =
-    let made = cond_some (bytes_eq (take (length words) text) words) (drop (length words) text) rest e in
-    let front : take (length words) text ≡ words = (bytes_eq-Decides (take (length words) text) words).0 made.0 in
-    sym (take-append-drop (length words) text) ∙ ap (λ l. l ++ drop (length words) text) front ∙ ap (λ l. words ++ l) made.1
-
-some_same : {A : Type 0} (x y : A) → Some x ≡ Some y → x ≡ y
-some_same x y e = cc
-
 joined : (label rest : List ℕ) → codes "<\"" ++ (label ++ (codes "\">" ++ rest)) ≡ observation_text label ++ rest
 joined label rest = simp append_assoc
 
@@ -34,7 +21,7 @@ observation_sound text label rest e =
     let opened = bind_some (after (codes "<\"") text) _ (label, rest) e in
     let read = bind_some (plain_label_at opened.0) _ (label, rest) opened.2 in
     let closed = bind_some (after (codes "\">") read.0.1) _ (label, rest) read.2 in
-    let found : (read.0.0, closed.0) ≡ (label, rest) = some_same _ _ closed.2 in
+    let found : (read.0.0, closed.0) ≡ (label, rest) = same_Some _ _ closed.2 in
     let plain = plain_label_sound opened.0 read.0.0 read.0.1 read.1 in
     let o = after_sound (codes "<\"") text opened.0 opened.1 in
     let z = after_sound (codes "\">") read.0.1 closed.0 closed.1 in (
@@ -88,7 +75,7 @@ pub record GoesOn (labels others : List Label) (rest : List ℕ) : Type 0 where
 same_front : (label other : Label) (rest more : List ℕ) → IsPlainLabel label → IsPlainLabel other → observation_text label ++ rest ≡ observation_text other ++ more → (label ≡ other) × (rest ≡ more)
 same_front label other rest more plain plain_other e =
     let read : Some (label, rest) ≡ Some (other, more) = sym (observation_complete label rest plain) ∙ ap observation_at e ∙ observation_complete other more plain_other in
-    let same = some_same (label, rest) (other, more) read in
+    let same = same_Some (label, rest) (other, more) read in
     (ap (λ p. p.0) same, ap (λ p. p.1) same)
 
 tt_is_no_row : (label : Label) (labels : List Label) (rest : List ℕ) → row_text (label ∷ labels) ++ rest ≡ codes "tt" → ⊥

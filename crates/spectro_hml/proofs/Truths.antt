@@ -1,15 +1,14 @@
 -- Tables of truths, and how they grow by a step.
-use Rattle.std.proofs.Common.{◌≡◌, ◌∙◌, ◌⊎◌, inl, inr, ℕ, ◌+◌, ◌<◌, Bool, true, false, List, [], ◌∷◌, ◌++◌, length, take, replicate, Contains, slice_get, slice_index_or, slice_set, position, Some, None, refl, sym, ap, subst, arith}
+use Rattle.std.proofs.Common.{◌≡◌, ◌∙◌, ◌⊎◌, inl, inr, ℕ, ◌+◌, ◌<◌, Bool, true, false, List, [], ◌∷◌, ◌++◌, length, take, replicate, Contains, slice_get, slice_set, position, Some, None, refl, sym, ap, subst, arith}
 use Rattle.std.specs.Str.{bytes_eq}
 use Rattle.std.proofs.lemmas.Bool.{cases_eq}
 use Rattle.std.proofs.lemmas.Grind.{get_or-set_at}
 use Rattle.std.proofs.lemmas.List.{get_or-replicate, get_or-set_other, length-replicate, length-set, take_more}
-use Rattle.std.proofs.lemmas.List.Elements.{All-contains, Contains-append_left, Contains-push, Contains-push_cases}
+use Rattle.std.proofs.lemmas.List.Elements.{Contains-append_left, Contains-push, Contains-push_cases}
 use Rattle.std.proofs.lemmas.Option.{slice_get_within, get_or_from_slice_get}
-use Rattle.spectro_spec.specs.System.{Label, Step, System, IsWhole}
-use Rattle.spectro_spec.specs.Formula.{Formula, see, all, no_clauses}
+use Rattle.spectro_spec.specs.System.{Label, Step}
 use Rattle.spectro_aut.specs.Labels.{labels_of, IsStepAt}
-use Rattle.spectro_hml.specs.Truth.{IsTrueAt, LeadsToTrue, IsBefore, AreTruths}
+use Rattle.spectro_hml.specs.Truth.{IsTrueAt, LeadsToTrue, IsBefore}
 use Rattle.spectro_hml.proofs.Numbering.{no_step_has, label_from_number, number_from_label}
 
 -- a fresh table is false everywhere
@@ -69,27 +68,6 @@ before_skipped steps step label table before old other = record { leads = λ s w
 -- the step at place k follows the first k steps
 pub take_step : (steps : List Step) (k : ℕ) (step : Step) → slice_get steps k ≡ Some step → take (k + 1) steps ≡ take k steps ++ step ∷ []
 take_step steps k step at = take_more steps k step (slice_get_within steps k step at) ∙ ap (λ (last : Step). take k steps ++ last ∷ []) (get_or_from_slice_get steps k step step at)
-
--- ---- the truths of a formula
-pub truths_of_all : (system : System) (table : List Bool) → table ≡ replicate system.states true → AreTruths system (all no_clauses) table
-truths_of_all system table full = record {
-  whole = ap length full ∙ length-replicate system.states true;
-  truths = λ s within. (λ _. tt, λ _. ap (λ table. slice_index_or table s false) full ∙ get_or-replicate system.states s true false within);
-}
-
-target_within : (system : System) (s t : ℕ) (label : Label) → IsWhole system → Contains system.steps (record { source = s; label = label; target = t }) → t < system.states
-target_within system s t label whole here = All-contains (λ step. step.target < system.states) system.steps (record { source = s; label = label; target = t }) whole.targets here
-
-pub truths_of_see : (system : System) (label : Label) (formula : Formula) (table before : List Bool) → IsWhole system → AreTruths system formula table → IsBefore system.steps label table before → length before ≡ system.states
-    → AreTruths system (see label formula) before
-truths_of_see system label formula table before whole truths leads sized = record {
-  whole = sized;
-  truths = λ s within.
-      let inside : s < length before = omega arith in (
-        λ is. let (t, here, marked) = (leads.leads s inside).0 is in (t, here, (truths.truths t (target_within system s t label whole here)).0 marked),
-        λ (t, here, holds). (leads.leads s inside).1 (t, here, (truths.truths t (target_within system s t label whole here)).1 holds),
-      );
-}
 
 -- ---- one more step, by number
 pub more_marked : (steps : List Step) (k from number to : ℕ) (label : Label) (label_no : ℕ) (table before : List Bool) → IsStepAt steps k from number to → position (bytes_eq label) (labels_of steps) ≡ Some label_no

@@ -30,3 +30,20 @@ impl fmt::Display for TextFault {
         write!(f, "byte {at}: {kind:?}")
     }
 }
+
+#[cfg(test)]
+mod tests {
+    use super::*;
+    use std::alloc::AllocError;
+
+    #[test]
+    fn says_where_and_what(rt: HostRuntime) -> Result<(), AllocError> {
+        let fault = TextFault {
+            at: 0,
+            kind: TextKind::NotPlain,
+        };
+        let text = format!(in rt.alloc(); "{}", ParseError::Text(fault))?;
+        assert_eq!(rt; text.as_str(), "byte 0: NotPlain");
+        Ok(())
+    }
+}

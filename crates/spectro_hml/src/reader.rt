@@ -58,3 +58,84 @@ fn observation_at(text: &[u8]) -> Option<(&str, &[u8])>
     let rest = rest.strip_prefix(b"\">")?;
     Some((label, rest))
 }
+
+#[cfg(test)]
+mod tests {
+    use super::*;
+    use crate::chain_price;
+
+    const NOT_PLAIN: TextFault = TextFault {
+        at: 0,
+        kind: TextKind::NotPlain,
+    };
+
+    #[test]
+    fn reads_a_row_of_observations(rt: HostRuntime) -> Result<(), ParseError> {
+        let alloc = rt.alloc();
+        let none = parse_plain(alloc, "tt")?;
+        assert_eq!(rt; chain_price(&none).parts, [0, 1, 0, 0, 0, 0, 0]);
+        let two = parse_plain(alloc, "<\"a\"><\"b2\">tt")?;
+        assert_eq!(rt; chain_price(&two).parts, [2, 1, 0, 0, 0, 0, 2]);
+        Ok(())
+    }
+
+    #[test]
+    fn refuses_other_texts(rt: HostRuntime) {
+        let alloc = rt.alloc();
+        for text in [
+            "",
+            "and{}",
+            " tt",
+            "tt ",
+            "ttt",
+            "<\"\">tt",
+            "<\"a\">",
+            "<\"a\">ttt",
+            "<\"a b\">tt",
+            "<a>tt",
+        ] {
+            assert_eq!(rt; fault(alloc, text), Some(NOT_PLAIN), "{text}");
+        }
+    }
+
+    #[test]
+    fn keeps_its_limits(rt: HostRuntime) -> Result<(), AllocError> {
+        let alloc = rt.alloc();
+        for (observations, label_bytes, want) in [
+            (255, 1, None),
+            (256, 1, Some(NOT_PLAIN)),
+            (1, 64, None),
+            (1, 65, Some(NOT_PLAIN)),
+        ] {
+            let text = row_text(alloc, observations, label_bytes)?;
+            assert_eq!(rt;
+                fault(alloc, text.as_str()),
+                want,
+                "{observations} of {label_bytes}"
+            );
+        }
+        Ok(())
+    }
+
+    // So many observations of a label of so many bytes, before `tt`.
+    fn row_text(alloc: Global, observations: u32, label_bytes: u32) -> Result<String, AllocError> {
+        let mut text = String::new(alloc);
+        for _ in 0..observations {
+            text.push_str("<\"")?;
+            for _ in 0..label_bytes {
+                text.push_str("a")?;
+            }
+            text.push_str("\">")?;
+        }
+        text.push_str("tt")?;
+        Ok(text)
+    }
+
+    // The fault of the text, if it has one.
+    fn fault(alloc: Global, text: &str) -> Option<TextFault> {
+        match parse_plain(alloc, text) {
+            Err(ParseError::Text(fault)) => Some(fault),
+            _ => None,
+        }
+    }
+}

@@ -7,7 +7,7 @@ ghost use Rattle.spectro_hml.specs.Truth.{AreTruths, IsBefore};
 use crate::Chain;
 use spectro_aut::Lts;
 
-// The greatest number of states.
+/// The greatest number of states.
 const MAX_STATES: usize = 131_072;
 
 /// Whether the chain's formula is true at the state.
@@ -35,12 +35,12 @@ fn is_true_at(
 {
     let states = lts.states() as usize;
     let table = &mut table[..states];
-    tell(lts, labels, table, &mut spare[..states]);
+    write_truths(lts, labels, table, &mut spare[..states]);
     table[state as usize]
 }
 
 // Writes into the table at which states the formula of the labels is true.
-fn tell(lts: &Lts, labels: &[String], table: &mut [bool], spare: &mut [bool])
+fn write_truths(lts: &Lts, labels: &[String], table: &mut [bool], spare: &mut [bool])
     requires whole { IsWhole lts.now }
     requires table { length table.old ≡ lts.now.states }
     requires spare { length spare.old ≡ lts.now.states }
@@ -50,12 +50,12 @@ fn tell(lts: &Lts, labels: &[String], table: &mut [bool], spare: &mut [bool])
         table.fill(true);
         return;
     };
-    tell(lts, rest, spare, table);
-    step_back(lts, label.as_str(), spare, table);
+    write_truths(lts, rest, spare, table);
+    write_sources(lts, label.as_str(), spare, table);
 }
 
-// Writes into the second table from which states a step under the label leads to where the first is true.
-fn step_back(lts: &Lts, label: &str, table: &[bool], before: &mut [bool])
+// Writes into the second table from which states a step under the label leads to where the first one is true.
+fn write_sources(lts: &Lts, label: &str, table: &[bool], before: &mut [bool])
     requires table { length table.now ≡ lts.now.states }
     requires before { length before.old ≡ lts.now.states }
     ensures { IsBefore lts.now.steps label.now table.now before.new }
@@ -68,6 +68,48 @@ fn step_back(lts: &Lts, label: &str, table: &[bool], before: &mut [bool])
         let step = lts.step(k);
         if step.label == no && table[step.to as usize] {
             before[step.from as usize] = true;
+        }
+    }
+}
+
+#[cfg(test)]
+mod tests {
+    use super::*;
+    use crate::parse_plain;
+    use spectro_aut::read;
+    use std::alloc::Global;
+
+    // Two equal steps under `a`, of which neither goes on, before one to a state that goes on by `b`.
+    const DEAD_ENDS: &[u8] = b"des (0,4,4)\n(0,a,1)\n(0,a,1)\n(0,a,2)\n(2,b,3)\n";
+
+    #[test]
+    fn follows_each_matching_step(rt: HostRuntime) {
+        let alloc = rt.alloc();
+        for (formula, state, want) in [
+            ("tt", 1, true),
+            ("<\"a\">tt", 0, true),
+            ("<\"a\">tt", 1, false),
+            ("<\"a\"><\"b\">tt", 0, true),
+            ("<\"b\"><\"a\">tt", 0, false),
+            ("<\"a\"><\"b\"><\"b\">tt", 0, false),
+            ("<\"c\">tt", 0, false),
+        ] {
+            assert_eq!(rt;
+                truth(alloc, formula, state),
+                Some(want),
+                "{formula} at {state}"
+            );
+        }
+    }
+
+    // Whether the formula is true at the state, where there is memory.
+    fn truth(alloc: Global, formula: &str, state: u32) -> Option<bool> {
+        let lts = read(alloc, DEAD_ENDS).ok()?;
+        let chain = parse_plain(alloc, formula).ok()?;
+        if state < lts.states() {
+            Some(chain_truth(&lts, &chain, state))
+        } else {
+            None
         }
     }
 }

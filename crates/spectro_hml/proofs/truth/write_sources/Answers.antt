@@ -2,8 +2,8 @@ use Rattle.std.proofs.Common.{arith, ◌∙◌, length, subst, sym}
 use Rattle.std.proofs.lemmas.List.{take_all}
 use Rattle.spectro_hml.specs.Truth.{IsBefore}
 use Rattle.spectro_hml.proofs.Truths.{before_none, before_unknown, more_marked, more_skipped}
-use Rattle.spectro_hml.proofs.truth.step_back.Goals.{then-step-no+then-table-step, else-step-no, else-step-no-via-then-step-no+else-table-step, else-step-no-via-else-step-no}
-use Rattle.spectro_hml.proofs.truth.step_back.Goals as goal
+use Rattle.spectro_hml.proofs.truth.write_sources.Goals.{then-step-no+then-table-step, else-step-no, else-step-no-via-then-step-no+else-table-step, else-step-no-via-else-step-no}
+use Rattle.spectro_hml.proofs.truth.write_sources.Goals as goal
 
 pub returns-in_default : goal.returns-in_default
 returns-in_default c =

@@ -1,29 +1,13 @@
--- Readings at the front of a text: two in a row, words, and a comma.
+-- A comma at the front of a text, and the space behind it.
 use Rattle.std.proofs.Common.{◌≡◌, ◌∙◌, ℕ, Bool, true, false, cond, List, [], ◌∷◌, ◌++◌, take, drop, length, refl, sym, ap, inl, inr, take-append-drop}
 use Rattle.std.specs.Prelude.{Option, None, Some, unwrap_or}
 use Rattle.std.proofs.lemmas.Option.{cond_some}
 use Rattle.std.proofs.lemmas.Slice.Eq.{bytes_eq-Decides}
 use Rattle.spectro_aut.specs.Grammar.{IsComma}
-use Rattle.spectro_aut.specs.Reading.{◌>>=◌, after, comma_at, digit_count}
+use Rattle.spectro_io.specs.Fronts.{after}
+use Rattle.spectro_io.proofs.Fronts.{bind_some, after_sound}
+use Rattle.spectro_aut.specs.Reading.{comma_at, digit_count}
 use Rattle.spectro_aut.specs.PlainLabels.{plain_length}
-
--- what two readings in a row gave
-pub bind_some : {A B : Type 0} (first : Option A) (second : A → Option B) (y : B) → (first >>= second) ≡ Some y → (x : A) × (first ≡ Some x) × (second x ≡ Some y)
-bind_some None second y e = cc
-bind_some (Some x) second y e = (x, refl, e)
-
--- what is not the other case of a choice
-pub cond_else : {A : Type 0} (test : Bool) (x y : Option A) (z : A) → x ≡ None → cond test x y ≡ Some z → (test ≡ false) × (y ≡ Some z)
-cond_else true x y z none e = cc
-cond_else false x y z none e = (refl, e)
-
-pub some_same : {A : Type 0} (x y : A) → Some x ≡ Some y → x ≡ y
-some_same x y e = cc
-
-pub after_sound : (words text rest : List ℕ) → after words text ≡ Some rest → text ≡ words ++ rest
-after_sound words text rest e =
-    let found = cond_some _ _ _ e in
-    sym (take-append-drop (length words) text) ∙ ap (λ l. l ++ drop (length words) text) ((bytes_eq-Decides (take (length words) text) words).0 found.0) ∙ ap (λ l. words ++ l) found.1
 
 comma_rest : (next rest : List ℕ) (spaced : Option (List ℕ)) → after (32 ∷ []) next ≡ spaced → Some (unwrap_or spaced next) ≡ Some rest → (comma : List ℕ) × IsComma comma × (44 ∷ next ≡ comma ++ rest)
 comma_rest next rest None e h = (44 ∷ [], inl refl, cc)
