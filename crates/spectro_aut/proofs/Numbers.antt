@@ -11,6 +11,7 @@ use Rattle.std.proofs.Math.Seq.{take-append_seam, drop-append_seam}
 use Rattle.spectro_io.specs.Numbers.{number_value, is_number, number_of}
 use Rattle.spectro_aut.specs.Grammar.{IsShortNumber}
 use Rattle.spectro_aut.specs.Reading.{digit_count, number_at}
+use Rattle.spectro_io.specs.Fronts.{after}
 use Rattle.spectro_io.proofs.Fronts.{bind_some, cond_else}
 use Rattle.spectro_aut.proofs.PlainLabelLaws.{prefix_len-front}
 
