@@ -1,5 +1,5 @@
 -- What contracts see of the devices in memory.
-use Rattle.std.specs.Prelude.{ℕ, ◌≡◌, ◌≢◌, List, [], ◌∷◌, Option, None, Some, if◌then◌else◌}
+use Rattle.std.specs.Prelude.{ℕ, ◌≡◌, ◌≢◌, List, [], ◌∷◌, None, Some, if◌then◌else◌}
 use Rattle.std.specs.Str.{bytes_eq}
 use Rattle.spectro_io.specs.Plans.{Plan}
 use Rattle.spectro_io.specs.Shelves.{Texts}

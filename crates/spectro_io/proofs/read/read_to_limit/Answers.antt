@@ -1,4 +1,4 @@
-use Rattle.std.proofs.Common.{arith, ◌++◌, length-append, length-take, take, ◌≤◌, ◌+◌, vec_len}
+use Rattle.std.proofs.Common.{arith, ◌++◌, length-append, length-take, take}
 use Rattle.std.proofs.KnownBytes.{Consumes-trans}
 use Rattle.std.proofs.lemmas.Result.{err_from_is_err_and}
 use Rattle.spectro_io.specs.Limits.{read_limit}

@@ -1,4 +1,4 @@
-use Rattle.std.proofs.Common.{refl, ap}
+use Rattle.std.proofs.Common.{refl}
 use Rattle.spectro_io.proofs.Shelved.{held-inserted, others-inserted}
 use Rattle.spectro_io.proofs.memory.shelf.MemShelf.put.Goals as goal
 

@@ -1,4 +1,4 @@
-use Rattle.std.proofs.Common.{◌+◌, length, ap, ◌∙◌}
+use Rattle.std.proofs.Common.{◌+◌, length, ap}
 use Rattle.spectro_io.specs.Entries.{left_of}
 use Rattle.spectro_io.proofs.Reading.{reads-front}
 use Rattle.spectro_io.proofs.Shelved.{left_of-more}
