@@ -4,8 +4,10 @@ use thiserror::Error;
 /// Why a text is not read as a system.
 #[derive(Debug, Drop, Error)]
 pub enum AutError {
+    /// The text is of no system.
     #[error("{0}")]
     Text(AutFault),
+    /// Nothing is said of the text.
     #[error("out of memory")]
     OutOfMemory,
 }
@@ -17,6 +19,7 @@ pub struct AutFault {
     pub kind: AutKind,
 }
 
+/// What is wrong with a line.
 #[derive(Clone, Copy, Debug, PartialEq, Eq)]
 pub enum AutKind {
     /// The text is no plain text.

@@ -76,6 +76,7 @@ impl Lts {
         self.states
     }
 
+    /// The initial state.
     pub fn initial(&self) -> u32
         ensures value { result ≡ self.now.initial }
         ensures in_range { self.now.initial < self.now.states }
