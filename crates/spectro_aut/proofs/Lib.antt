@@ -6,3 +6,4 @@ pub mod Headers
 pub mod Lines
 pub mod Steps
 pub mod Texts
+pub mod LabelLaws

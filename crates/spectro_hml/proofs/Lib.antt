@@ -1,4 +1,3 @@
-pub mod Numbering
 pub mod Prices
 pub mod Truths
 pub mod Rows

@@ -7,8 +7,8 @@ use Rattle.spectro_aut.specs.PlainLabels.{IsPlainLabel, plain_label_at}
 use Rattle.spectro_aut.proofs.PlainLabelLaws.{plain_label_sound, plain_label_complete}
 use Rattle.spectro_hml.specs.Grammar.{IsPlainFormula, observation_text, row_text}
 use Rattle.spectro_io.specs.Fronts.{after}
-use Rattle.spectro_io.proofs.Fronts.{bind_some, after_sound}
 use Rattle.std.proofs.lemmas.Option.{same_Some}
+use Rattle.spectro_io.proofs.Fronts.{bind_some, after_sound}
 use Rattle.spectro_hml.specs.Reading.{observation_at}
 
 -- ---- the observation at the front of a text

@@ -9,7 +9,7 @@ use Rattle.std.proofs.lemmas.Option.{slice_get_within, get_or_from_slice_get}
 use Rattle.spectro_spec.specs.System.{Label, Step}
 use Rattle.spectro_aut.specs.Labels.{labels_of, IsStepAt}
 use Rattle.spectro_hml.specs.Truth.{IsTrueAt, LeadsToTrue, IsBefore}
-use Rattle.spectro_hml.proofs.Numbering.{no_step_has, label_from_number, number_from_label}
+use Rattle.spectro_aut.proofs.LabelLaws.{no_step_has, label_from_number, number_from_label}
 
 -- a fresh table is false everywhere
 fresh : (n s : ℕ) → s < length (replicate n false) → IsTrueAt (replicate n false) s → ⊥

@@ -1,4 +1,4 @@
--- Labels of steps by number: each has one number.
+-- The labels of steps, each once: each has one number, and what has none is the label of no step.
 use Rattle.std.proofs.Common.{◌≡◌, ◌∙◌, ◌⊎◌, inl, inr, ℕ, ◌<◌, ◌≤◌, nat_lt, Bool, true, false, suc, zero, List, [], ◌∷◌, length, map, Contains, slice_get, position, Some, None, refl, sym, ap, subst, arith}
 use Rattle.std.specs.List.{list_any, IsDistinct, position_or_len}
 use Rattle.std.specs.Str.{bytes_eq}
