@@ -1,8 +1,6 @@
 -- A comma at the front of a text, and the space behind it.
-use Rattle.std.proofs.Common.{◌≡◌, ◌∙◌, ℕ, Bool, true, false, cond, List, [], ◌∷◌, ◌++◌, take, drop, length, refl, sym, ap, inl, inr, take-append-drop}
+use Rattle.std.proofs.Common.{◌≡◌, ◌∙◌, ℕ, List, [], ◌∷◌, ◌++◌, refl, inl, inr}
 use Rattle.std.specs.Prelude.{Option, None, Some, unwrap_or}
-use Rattle.std.proofs.lemmas.Option.{cond_some}
-use Rattle.std.proofs.lemmas.Slice.Eq.{bytes_eq-Decides}
 use Rattle.spectro_aut.specs.Grammar.{IsComma}
 use Rattle.spectro_io.specs.Fronts.{after}
 use Rattle.spectro_io.proofs.Fronts.{bind_some, after_sound}
