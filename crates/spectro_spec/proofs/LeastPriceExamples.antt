@@ -1,19 +1,14 @@
 -- The least prices from a state that can step to one that can't.
 use Rattle.std.proofs.Common.{◌≡◌, ◌≤◌, ◌⊎◌, inl, inr, [], ◌∷◌, refl, ap, arith, rules}
 use Rattle.spectro_spec.specs.Formula.{Formula, Clauses, see, all, no_clauses, plus, minus, Satisfies, SatisfiesEach}
-use Rattle.spectro_spec.specs.Weighing.{Weighing}
 use Rattle.spectro_spec.specs.Price.{ComesBefore, Price}
 use Rattle.spectro_spec.specs.Pricing.{price, priced_clauses, price_of_conjunction}
 use Rattle.spectro_spec.specs.Notion.{Distinguishes}
 use Rattle.spectro_spec.specs.LeastPrices.{Covers, AreLeastPrices}
 use Rattle.spectro_spec.proofs.Members.{only_member, Contains-none}
+use Rattle.spectro_spec.proofs.Pricing.{conjunctions-at_least_one}
 use Rattle.spectro_spec.proofs.TruthExamples.{Distinguishes-enabled}
 use Rattle.spectro_spec.proofs.Samples.{a, one_step, enabled, six}
-
--- each formula ends in conjunctions
-pub conjunctions-at_least_one : (weighing : Weighing) (formula : Formula) → 1 ≤ (price weighing formula).conjunctions
-conjunctions-at_least_one weighing (see label formula) = conjunctions-at_least_one weighing formula
-conjunctions-at_least_one weighing (all cs) = omega arith
 
 -- true at both or at neither
 abbrev IsSame : Formula → Type 0

@@ -1,5 +1,6 @@
 pub mod Samples
 pub mod Members
+pub mod Pricing
 pub mod SystemExamples
 pub mod TruthExamples
 pub mod PriceExamples

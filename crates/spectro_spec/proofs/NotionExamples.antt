@@ -8,7 +8,7 @@ use Rattle.spectro_spec.specs.Notion.{Bound, IsWithin, Holds}
 use Rattle.spectro_spec.specs.Spectrum.{enabledness, traces, failures, simulation, bisimulation}
 use Rattle.spectro_spec.proofs.Members.{Contains-first, Contains-none, targets}
 use Rattle.spectro_spec.proofs.TruthExamples.{Distinguishes-enabled, Distinguishes-disabled, Distinguishes-then_both, Distinguishes-then_not}
-use Rattle.spectro_spec.proofs.LeastPriceExamples.{conjunctions-at_least_one}
+use Rattle.spectro_spec.proofs.Pricing.{conjunctions-at_least_one}
 use Rattle.spectro_spec.proofs.Samples.{a, c, one_step, late_and_early, enabled, disabled, then_both, then_not}
 
 Holds-itself : (weighing : Weighing) (bound : Bound) (system : System) (p : ℕ) → Holds weighing bound system p p

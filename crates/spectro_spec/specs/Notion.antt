@@ -34,6 +34,21 @@ pub record IsWithin (e : Price) (bound : Bound) : Type 0 where
   pub deepest_negative : IsUpTo e.deepest_negative bound.deepest_negative
   pub negations : IsUpTo e.negations bound.negations
 
+-- the first number is at most the second, none being the greatest
+abbrev pub IsNoGreater : Option ℕ → Option ℕ → Type 0
+IsNoGreater most None = Unit {0}
+IsNoGreater None (Some most) = ⊥
+IsNoGreater (Some low) (Some most) = low ≤ most
+
+-- each part of the first bound is at most that of the second, no bound being the greatest
+pub record IsBelow (bound other : Bound) : Type 0 where
+  pub observations : IsNoGreater bound.observations other.observations
+  pub conjunctions : IsNoGreater bound.conjunctions other.conjunctions
+  pub deepest_positive : IsNoGreater bound.deepest_positive other.deepest_positive
+  pub other_positive : IsNoGreater bound.other_positive other.other_positive
+  pub deepest_negative : IsNoGreater bound.deepest_negative other.deepest_negative
+  pub negations : IsNoGreater bound.negations other.negations
+
 -- the formula is true at p, and at none of qs
 pub record Distinguishes (system : System) (p : ℕ) (qs : List ℕ) (formula : Formula) : Type 0 where
   pub satisfied : Satisfies system p formula
