@@ -1,0 +1,11 @@
+pub mod UpdateExamples
+pub mod MinimalElementsExamples
+pub mod DivisionExamples
+pub mod PairExamples
+pub mod BackwardStepExamples
+pub mod AffordsExamples
+pub mod GenerationExamples
+pub mod RowExamples
+pub mod MarkExamples
+pub mod ReachedExamples
+pub mod NotReachedExamples

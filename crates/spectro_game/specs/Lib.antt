@@ -1,0 +1,10 @@
+pub mod Update
+pub mod Sup
+pub mod MinimalElements
+pub mod Divisions
+pub mod Pairs
+pub mod Reached
+pub mod BackwardStep
+pub mod Generations
+pub mod Rows
+pub mod Marks

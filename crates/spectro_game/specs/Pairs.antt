@@ -1,0 +1,73 @@
+-- Pairs of a state and a set of states, and the pairs that follow one.
+use Rattle.std.specs.Prelude.{ℕ, ◌+◌, ◌^◌, ◌==◌, ◌&&◌, ◌||◌, not, nat_lt, Bool, true, false, List, [], ◌∷◌, ◌++◌, length, map, filter, drop, sum_by, Contains, if◌then◌else◌}
+use Rattle.std.specs.List.{flat_map}
+use Rattle.std.specs.Str.{bytes_eq}
+use Rattle.spectro_spec.specs.System.{Label, Step, System, post}
+use Rattle.spectro_game.specs.Divisions.{Division, divisions}
+use Rattle.spectro_game.specs.Reached.{AreReached}
+
+pub record Pair : Type 0 where
+  pub state : ℕ
+  pub set : List ℕ
+
+-- whether the first text comes before the second in the order of bytes: where it ends first, or has the smaller byte where they first differ
+abbrev pub is_before_text : List ℕ → List ℕ → Bool
+is_before_text [] [] = false
+is_before_text [] (m ∷ ms) = true
+is_before_text (n ∷ ns) [] = false
+is_before_text (n ∷ ns) (m ∷ ms) = nat_lt n m || ((n == m) && is_before_text ns ms)
+
+-- the label is put in its place in rising labels, unless it stands there
+abbrev pub placed_label : Label → List Label → List Label
+placed_label label [] = label ∷ []
+placed_label label (other ∷ others) =
+    if is_before_text label other then label ∷ other ∷ others else (if bytes_eq label other then other ∷ others else other ∷ placed_label label others)
+
+-- the labels of the steps from the state, in the order of bytes, each once
+abbrev pub labels_from : List Step → ℕ → List Label
+labels_from [] p = []
+labels_from (step ∷ steps) p = if step.source == p then placed_label step.label (labels_from steps p) else labels_from steps p
+
+-- after a step under the label, from the state and from the set at once, by rising target
+abbrev pub observed_under : System → Pair → Label → List Pair
+observed_under system x label = map (λ t. record { state = t; set = post system x.set label }) (post system (x.state ∷ []) label)
+
+-- after a step, by label and then by target
+abbrev pub observed : System → Pair → List Pair
+observed system x = flat_map (observed_under system x) (labels_from system.steps x.state)
+
+-- the state against each subset that is not empty, by rising mask
+abbrev pub subsets : Pair → List Pair
+subsets x = map (λ (d : Division). record { state = x.state; set = d.left }) (drop 1 (divisions x.set))
+
+-- each other member against the state, in the order of the set
+abbrev pub swaps : Pair → List Pair
+swaps x = map (λ q. record { state = q; set = x.state ∷ [] }) (filter (λ q. not (q == x.state)) x.set)
+
+-- the pairs that follow, in order
+unfoldable pub followers : System → Pair → List Pair
+followers system x = observed system x ++ (subsets x ++ swaps x)
+
+-- the state and the set follow the others
+abbrev pub IsFollower : System → ℕ → List ℕ → ℕ → List ℕ → Type 0
+IsFollower system p qs p' qs' = Contains (followers system (record { state = p; set = qs })) (record { state = p'; set = qs' })
+
+-- with each pair its followers are there
+abbrev pub IsClosed : System → (ℕ → List ℕ → Type 0) → Type 0
+IsClosed system known = (p : ℕ) (qs : List ℕ) (p' : ℕ) (qs' : List ℕ) → known p qs → IsFollower system p qs p' qs' → known p' qs'
+
+-- the state and the set are one of the pairs
+abbrev pub IsOneOf : List Pair → ℕ → List ℕ → Type 0
+IsOneOf pairs p qs = Contains pairs (record { state = p; set = qs })
+
+-- the pairs that the starts reach, in the order in which they are found
+abbrev pub AreReachedPairs : System → List Pair → List Pair → Type 0
+AreReachedPairs system starts pairs = AreReached (followers system) starts pairs
+
+-- how many positions of the game the pair stands for
+abbrev pub weight : Pair → ℕ
+weight x = 1 + 2 ^ length x.set + (if length x.set == 1 then 1 else 0)
+
+-- how many positions the game on these pairs has
+abbrev pub size : List Pair → ℕ
+size pairs = sum_by weight pairs
