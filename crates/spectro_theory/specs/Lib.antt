@@ -1,0 +1,7 @@
+pub mod Leaves
+pub mod Splits
+pub mod LawsOfPrices
+pub mod LawsOfNotions
+pub mod LawsOfPairs
+pub mod LawsOfSteps
+pub mod LawsOfGenerations
