@@ -1,6 +1,8 @@
--- An energy as a price.
-use Rattle.std.specs.Prelude.{ℕ, List, slice_index}
-use Rattle.spectro_spec.specs.Price.{Price}
+-- An energy as a price, and the order of energies.
+use Rattle.std.specs.Prelude.{ℕ, ◌≡◌, ◌↔◌, List, slice_index}
+use Rattle.std.specs.declared.cmp.Ordering.{Ordering}
+use Rattle.std.specs.declared.cmp.Ordering.TheVariants.{Less, Equal, Greater}
+use Rattle.spectro_spec.specs.Price.{Price, ComesBefore}
 
 -- the price whose seven parts these are, in order
 abbrev pub price_of : List ℕ → Price
@@ -13,3 +15,9 @@ price_of parts = record {
   negations = slice_index parts 5;
   weighted_depth = slice_index parts 6;
 }
+
+-- how e stands to f in the lexicographic order
+pub record IsLexicographic (order : Ordering) (e f : Price) : Type 0 where
+  pub less : order ≡ Less ↔ ComesBefore e f
+  pub equal : order ≡ Equal ↔ e ≡ f
+  pub greater : order ≡ Greater ↔ ComesBefore f e

@@ -1,6 +1,7 @@
 pub mod Samples
 pub mod Members
 pub mod Pricing
+pub mod FirstSmaller
 pub mod SystemExamples
 pub mod TruthExamples
 pub mod PriceExamples

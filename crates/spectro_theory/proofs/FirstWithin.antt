@@ -11,7 +11,7 @@ use Rattle.spectro_spec.specs.Notion.{Bound, IsWithin}
 use Rattle.spectro_spec.specs.LeastPrices.{Rises, AreLeastPrices}
 use Rattle.spectro_spec.proofs.Members.{Contains-first, Contains-cases}
 use Rattle.spectro_theory.specs.LawsOfNotions.{IsFirstWithin, IsShown}
-use Rattle.spectro_theory.proofs.LeastLists.{IsFirstSmaller-irrefl, IsFirstSmaller-trans}
+use Rattle.spectro_spec.proofs.FirstSmaller.{IsFirstSmaller-irrefl, IsFirstSmaller-trans}
 use Rattle.spectro_theory.proofs.Readings.{IsWithin-smaller}
 use Rattle.spectro_theory.proofs.Exactness.{price-reached}
 

@@ -11,7 +11,8 @@ use Rattle.spectro_spec.proofs.Members.{Contains-first, Contains-later, Contains
 use Rattle.spectro_game.specs.MinimalElements.{is_at_most, precedes, some_covers, not_above, placed_price, inserted, minimal_elements}
 use Rattle.spectro_theory.specs.LawsOfPrices.{AreMinimal}
 use Rattle.spectro_theory.proofs.PriceOrder.{IsAtMost-refl, IsAtMost-trans}
-use Rattle.spectro_theory.proofs.LeastLists.{IsFirstSmaller-trans, same_by_cover}
+use Rattle.spectro_spec.proofs.FirstSmaller.{IsFirstSmaller-trans}
+use Rattle.spectro_theory.proofs.LeastLists.{same_by_cover}
 
 -- what holds on both answers of a test holds
 pub by_test : {P : Type 0} (Q : Bool → Type 0) (test : Bool) → Decides test P → (P → Q true) → (¬ P → Q false) → Q test
