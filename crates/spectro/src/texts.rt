@@ -7,9 +7,10 @@ ghost use Rattle.spectro.specs.Causes.{HasRead, OrMemory, IsUnread};
 ghost use Rattle.spectro.specs.Refusals.{RefusesSystem, RefusesFormula};
 
 use crate::status::{BadText, Kind, Status, Which};
-use spectro_aut::{AutError, Lts};
+use spectro_aut::AutError;
 use spectro_hml::{Chain, ParseError};
 use spectro_io::{ReadError, Shelf, read_all};
+use spectro_lts::Lts;
 use std::alloc::Global;
 
 /// The text that the name holds, or as much of it as is read.

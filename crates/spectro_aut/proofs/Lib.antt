@@ -1,4 +1,3 @@
-pub mod Numbering
 pub mod PlainLabelLaws
 pub mod Commas
 pub mod Numbers
@@ -6,4 +5,3 @@ pub mod Headers
 pub mod Lines
 pub mod Steps
 pub mod Texts
-pub mod LabelLaws

@@ -1,6 +1,6 @@
 -- What is read as a plain label is one, and each plain label is read where no letter or digit follows.
 use Rattle.std.proofs.Common.{◌≡◌, ◌∙◌, ℕ, ◌<◌, ◌&&◌, Bool, true, false, List, [], ◌∷◌, ◌++◌, take, drop, length, refl, sym, ap, subst, arith, take-append-drop, one-add, get_or}
-use Rattle.std.specs.Prelude.{Some, Result, Ok, Err, MatchResult, IsOk, nat_lt, nat_le}
+use Rattle.std.specs.Prelude.{Contains, Some, Result, Ok, Err, MatchResult, IsOk, nat_lt, nat_le}
 use Rattle.std.specs.Char.{is_ascii_alphanumeric}
 use Rattle.std.specs.List.{list_all, prefix_len, All}
 use Rattle.std.specs.Str.{IsUtf8}
@@ -10,6 +10,7 @@ use Rattle.std.proofs.lemmas.Option.{cond_some}
 use Rattle.std.proofs.lemmas.Str.{IsUtf8-from_ascii}
 use Rattle.std.proofs.lemmas.Str.Ascii.{IsAscii-from_all}
 use Rattle.std.proofs.Math.Seq.{take-append_seam, drop-append_seam}
+use Rattle.spectro_lts.specs.Labels.{IsLabel}
 use Rattle.spectro_aut.specs.PlainLabels.{IsPlainLabel, plain_length, plain_label_at}
 
 -- each byte before the first that fails the test passes it
@@ -71,3 +72,13 @@ plain_label_complete label rest plain none =
     let some : nat_lt 0 (length label) ≡ true = grind (arith, common_steps, plain.not_empty) in
     let few : nat_le (length label) 64 ≡ true = grind (arith, common_steps, plain.short) in
     rw (count, some, few, take-append_seam label rest, drop-append_seam label rest) refl
+
+-- no letter and no digit ends a line
+pub plain-IsLabel : (text : List ℕ) → IsPlainLabel text → IsLabel text
+plain-IsLabel text plain = record { short = omega (arith, plain.short); one_line = one_line }
+  where
+    one_line : ¬ Contains text 10
+    one_line (place, within, at) =
+        let other : is_ascii_alphanumeric (get_or text place 10) ≡ false = rw at refl in
+        let none = list_all_at is_ascii_alphanumeric text place 10 within other in
+        let all = plain.plain in cc

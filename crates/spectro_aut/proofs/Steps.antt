@@ -1,21 +1,18 @@
 -- Lines one after another: what the reading of so many takes, and the grammar of the lines.
-use Rattle.std.proofs.Common.{◌≡◌, ◌∙◌, ℕ, zero, suc, ◌+◌, ◌-◌, ◌<◌, ◌≤◌, ◌&&◌, Bool, true, false, cond, List, [], ◌∷◌, ◌++◌, length, map, fold, arith, refl, sym, ap, subst, append_assoc, append-nil, length-append}
+use Rattle.std.proofs.Common.{◌≡◌, ◌∙◌, ℕ, zero, suc, ◌+◌, ◌-◌, ◌<◌, ◌≤◌, ◌&&◌, true, cond, List, [], ◌∷◌, ◌++◌, length, arith, refl, sym, ap, subst, append_assoc, append-nil, length-append}
 use Rattle.std.specs.Prelude.{None, Some, All, nat_lt, nat_le}
-use Rattle.std.specs.Str.{bytes_eq}
-use Rattle.std.specs.List.{list_any}
 use Rattle.std.proofs.lemmas.Grind.{common_steps}
-use Rattle.std.proofs.lemmas.List.{map-append}
 use Rattle.std.proofs.lemmas.List.Elements.{All-append}
-use Rattle.std.proofs.lemmas.List.Sums.{fold-append}
 use Rattle.std.proofs.lemmas.Option.{cond_some}
 use Rattle.std.proofs.Math.Seq.{get_or-append_seam}
-use Rattle.indexmap.specs.IndexSet.{insert_key}
-use Rattle.spectro_spec.specs.System.{System, Step, Label, IsWhole}
-use Rattle.spectro_aut.specs.Labels.{labels_of}
+use Rattle.spectro_spec.specs.System.{System, Step, IsWhole}
+use Rattle.spectro_lts.specs.Labels.{labels_of, IsLabel}
+use Rattle.spectro_lts.proofs.LabelLaws.{length-labels_of}
 use Rattle.spectro_aut.specs.Grammar.{IsLine, AreLines}
 use Rattle.spectro_aut.specs.Reading.{line_at, with_step, step_at, steps_at, is_nil}
 use Rattle.spectro_io.proofs.Fronts.{bind_some}
 use Rattle.spectro_aut.proofs.Lines.{line_sound, line_complete}
+use Rattle.spectro_aut.proofs.PlainLabelLaws.{plain-IsLabel}
 
 -- the system with more steps
 abbrev pub with_steps : System → List Step → System
@@ -40,24 +37,6 @@ pub record TakesSteps (count : ℕ) (system : System) (text : List ℕ) (grown :
   pub same : grown ≡ with_steps system steps
   pub is_whole : IsWhole grown
   pub few_labels : length (labels_of grown.steps) ≤ 65536
-
--- no step takes a label away
-length-insert_key : (labels : List Label) (label : Label) → length labels ≤ length (insert_key bytes_eq labels label)
-length-insert_key labels label = by (list_any (bytes_eq label) labels) refl
-  where
-    by : (there : Bool) → list_any (bytes_eq label) labels ≡ there → length labels ≤ length (insert_key bytes_eq labels label)
-    by true e = rw e (omega arith)
-    by false e = rw e (omega (arith, length-append labels (label ∷ [])))
-
-length-insert_all : (labels more : List Label) → length labels ≤ length (fold (insert_key bytes_eq) labels more)
-length-insert_all labels [] = omega arith
-length-insert_all labels (label ∷ more) = omega (arith, length-insert_key labels label, length-insert_all (insert_key bytes_eq labels label) more)
-
-length-labels_of : (steps more : List Step) → length (labels_of steps) ≤ length (labels_of (steps ++ more))
-length-labels_of steps more =
-    let both : labels_of (steps ++ more) ≡ fold (insert_key bytes_eq) (labels_of steps) (map (λ step. step.label) more) =
-    ap (fold (insert_key bytes_eq) []) (map-append (λ step. step.label) steps more) ∙ fold-append (insert_key bytes_eq) [] (map (λ step. step.label) steps) (map (λ step. step.label) more) in
-    rw both (length-insert_all (labels_of steps) (map (λ step. step.label) more))
 
 pub step_sound : (system : System) (text : List ℕ) (grown : System) (rest : List ℕ) → step_at system text ≡ Some (grown, rest) → TakesStep system text grown rest
 unfolding step_at
@@ -145,9 +124,14 @@ steps_complete (step ∷ steps) system text lines is_whole few =
     let others = steps_complete steps (with_step system step) lines.1 lines.4 (subst IsWhole (sym same) is_whole) all in
     rw taken (others ∙ ap Some same)
 
+-- the label of a line may be that of a step
+pub line-IsLabel : (text : List ℕ) (step : Step) (rest : List ℕ) → line_at text ≡ Some (step, rest) → IsLabel step.label
+line-IsLabel text step rest e = let line = line_sound text step rest e in plain-IsLabel step.label line.1.is_label
+
 -- so many lines have been read, and the reading goes on from what is left
 pub record IsReading (count place : ℕ) (begun : System) (text : List ℕ) (system : System) (rest : List ℕ) : Type 0 where
   pub same : steps_at (count - place) system rest ≡ steps_at count begun text
+  pub states : system.states ≡ begun.states
   pub few_steps : length system.steps ≡ length begun.steps + place
   pub few_labels : length (labels_of system.steps) ≤ 65536
 
@@ -164,6 +148,7 @@ reading-more count place begun text system rest grown others within reading read
     let few = reading.few_steps in
     record {
       same = sym again ∙ reading.same;
+      states = ap (λ grown. grown.states) taken.same ∙ reading.states;
       few_steps = omega arith;
       few_labels = taken.few_labels;
     }

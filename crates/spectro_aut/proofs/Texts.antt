@@ -3,7 +3,7 @@ use Rattle.std.proofs.Common.{◌≡◌, ◌∙◌, ℕ, ◌<◌, ◌≤◌, Boo
 use Rattle.std.specs.Prelude.{Option, None, Some, nat_lt, nat_le}
 use Rattle.std.proofs.lemmas.Grind.{common_steps}
 use Rattle.spectro_spec.specs.System.{System, IsWhole}
-use Rattle.spectro_aut.specs.Labels.{labels_of}
+use Rattle.spectro_lts.specs.Labels.{labels_of}
 use Rattle.spectro_aut.specs.Grammar.{IsHeader, IsPlainText}
 use Rattle.spectro_aut.specs.Reading.{header_at, steps_at, is_within, system_at}
 use Rattle.spectro_aut.specs.declared.header.Header.{Header}

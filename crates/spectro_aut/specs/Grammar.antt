@@ -2,7 +2,7 @@
 use Rattle.std.specs.Prelude.{ℕ, ◌≡◌, ◌≤◌, ◌⊎◌, List, [], ◌∷◌, ◌++◌, length, true, codes}
 use Rattle.spectro_io.specs.Numbers.{is_number, number_value}
 use Rattle.spectro_spec.specs.System.{System, Step, IsWhole}
-use Rattle.spectro_aut.specs.Labels.{labels_of}
+use Rattle.spectro_lts.specs.Labels.{labels_of}
 use Rattle.spectro_aut.specs.PlainLabels.{IsPlainLabel}
 
 -- one to seven digits

@@ -1,5 +1,3 @@
-pub mod Labels
-pub mod Numbered
 pub mod PlainLabels
 pub mod Grammar
 pub mod Faults

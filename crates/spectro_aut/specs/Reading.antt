@@ -5,7 +5,7 @@ use Rattle.std.specs.List.{prefix_len}
 use Rattle.spectro_io.specs.Fronts.{◌>>=◌, after}
 use Rattle.spectro_io.specs.Numbers.{number_of}
 use Rattle.spectro_spec.specs.System.{System, Step}
-use Rattle.spectro_aut.specs.Labels.{labels_of}
+use Rattle.spectro_lts.specs.Labels.{labels_of}
 use Rattle.spectro_aut.specs.PlainLabels.{plain_label_at}
 use Rattle.spectro_aut.specs.declared.header.Header.{Header}
 

@@ -1,17 +1,15 @@
-//! Systems, and the plain texts that are read as systems.
+//! Plain texts that are read as systems.
 #![tactic(auto)]
 
 mod error;
 mod fields;
 mod header;
 mod line;
-mod lts;
 mod plain_label;
 mod reader;
 mod unique;
 
 pub use error::{AutError, AutFault, AutKind};
-pub use lts::{Lts, Step};
 pub use plain_label::plain_label_at;
 pub use reader::read;
 pub use unique::one_system;

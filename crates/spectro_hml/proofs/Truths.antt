@@ -7,9 +7,9 @@ use Rattle.std.proofs.lemmas.List.{get_or-replicate, get_or-set_other, length-re
 use Rattle.std.proofs.lemmas.List.Elements.{Contains-append_left, Contains-push, Contains-push_cases}
 use Rattle.std.proofs.lemmas.Option.{slice_get_within, get_or_from_slice_get}
 use Rattle.spectro_spec.specs.System.{Label, Step}
-use Rattle.spectro_aut.specs.Labels.{labels_of, IsStepAt}
+use Rattle.spectro_lts.specs.Labels.{labels_of, IsStepAt}
 use Rattle.spectro_hml.specs.Truth.{IsTrueAt, LeadsToTrue, IsBefore}
-use Rattle.spectro_aut.proofs.LabelLaws.{no_step_has, label_from_number, number_from_label}
+use Rattle.spectro_lts.proofs.LabelLaws.{no_step_has, label_from_number, number_from_label}
 
 -- a fresh table is false everywhere
 fresh : (n s : ℕ) → s < length (replicate n false) → IsTrueAt (replicate n false) s → ⊥

@@ -5,7 +5,7 @@ ghost use Rattle.spectro_hml.specs.Chain.{formula_of};
 ghost use Rattle.spectro_hml.specs.Truth.{AreTruths, IsBefore};
 
 use crate::Chain;
-use spectro_aut::Lts;
+use spectro_lts::Lts;
 
 /// The greatest number of states.
 const MAX_STATES: usize = 131_072;

@@ -1,5 +1,5 @@
 use super::*;
-use crate::Step;
+use spectro_lts::Step;
 use std::test::Fail;
 
 const THREE_STEPS: &[u8] = b"des (1, 3,3)\n(0,coin, 1)\n(1, tea,02)\n(2,coin,0)\n";

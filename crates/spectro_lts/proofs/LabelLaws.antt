@@ -1,21 +1,24 @@
 -- The labels of steps, each once: each has one number, and what has none is the label of no step.
-use Rattle.std.proofs.Common.{◌≡◌, ◌∙◌, ◌⊎◌, inl, inr, ℕ, ◌<◌, ◌≤◌, nat_lt, Bool, true, false, suc, zero, List, [], ◌∷◌, length, map, Contains, slice_get, position, Some, None, refl, sym, ap, subst, arith}
+use Rattle.std.proofs.Common.{◌≡◌, ◌∙◌, ◌⊎◌, inl, inr, ℕ, ◌<◌, ◌≤◌, nat_lt, ◌||◌, Bool, true, false, suc, zero, List, [], ◌∷◌, ◌++◌, length, length-append, map, fold, Contains, slice_get, position, Some, None, refl, sym, ap, subst, arith}
 use Rattle.std.specs.List.{list_any, IsDistinct, position_or_len}
 use Rattle.std.specs.Str.{bytes_eq}
 use Rattle.std.proofs.Math.ListN.{get_or}
 use Rattle.std.proofs.lemmas.Bool.{cases_lt}
 use Rattle.std.proofs.lemmas.Cmp.{nat_list_eq_equiv}
 use Rattle.std.proofs.lemmas.Grind.{common_steps}
+use Rattle.std.proofs.lemmas.List.{map-append}
 use Rattle.std.proofs.lemmas.List.Elements.{Contains-append_left}
+use Rattle.std.proofs.lemmas.List.Folds.{list_any-append}
 use Rattle.std.proofs.lemmas.List.Quantifiers.{position-Some}
-use Rattle.std.proofs.lemmas.List.Sums.{fails_before_first}
+use Rattle.std.proofs.lemmas.List.Sums.{fails_before_first, fold-append}
 use Rattle.std.proofs.lemmas.Map.Keys.{IsDistinct-push, apart_from_distinct}
+use Rattle.std.proofs.lemmas.Map.Steps.{list_any_congr}
 use Rattle.std.proofs.lemmas.Option.{slice_get_within, get_or_from_slice_get, slice_get-get_or, slice_get-map}
 use Rattle.std.proofs.lemmas.Slice.Eq.{bytes_eq-Decides}
 use Rattle.indexmap.specs.IndexSet.{insert_key, insert_all}
 use Rattle.indexmap.proofs.CallerLemmas.{Contains-insert_key}
 use Rattle.spectro_spec.specs.System.{Label, Step}
-use Rattle.spectro_aut.specs.Labels.{labels_of}
+use Rattle.spectro_lts.specs.Labels.{labels_of}
 
 same_bytes : (text other : List ℕ) → bytes_eq text other ≡ true → text ≡ other
 same_bytes text other e = (bytes_eq-Decides text other).0 e
@@ -53,7 +56,58 @@ insert_all-has labels (label ∷ more) zero other found =
     insert_all-keeps (insert_key bytes_eq labels label) more other (subst (Contains (insert_key bytes_eq labels label)) same (Contains-insert_key bytes_eq same_bytes labels label))
 insert_all-has labels (label ∷ more) (suc place) other found = insert_all-has (insert_key bytes_eq labels label) more place other found
 
+-- no step takes a label away
+length-insert_key : (labels : List Label) (label : Label) → length labels ≤ length (insert_key bytes_eq labels label)
+length-insert_key labels label = by (list_any (bytes_eq label) labels) refl
+  where
+    by : (there : Bool) → list_any (bytes_eq label) labels ≡ there → length labels ≤ length (insert_key bytes_eq labels label)
+    by true e = rw e (omega arith)
+    by false e = rw e (omega (arith, length-append labels (label ∷ [])))
+
+length-insert_all : (labels more : List Label) → length labels ≤ length (fold (insert_key bytes_eq) labels more)
+length-insert_all labels [] = omega arith
+length-insert_all labels (label ∷ more) = omega (arith, length-insert_key labels label, length-insert_all (insert_key bytes_eq labels label) more)
+
+-- a label is among those put in where it was before, or is one of them
+or-false : (b : Bool) → b ≡ (b || false)
+or-false true = refl
+or-false false = refl
+
+or-later : (a b c : Bool) → ((a || b) || c) ≡ (a || (b || c))
+or-later true b c = refl
+or-later false b c = refl
+
+list_any-insert_key : (labels : List Label) (label other : Label) → list_any (bytes_eq other) (insert_key bytes_eq labels label) ≡ (list_any (bytes_eq other) labels || bytes_eq other label)
+list_any-insert_key labels label other = by (list_any (bytes_eq label) labels) (bytes_eq other label) refl refl
+  where
+    by : (there same : Bool) → list_any (bytes_eq label) labels ≡ there → bytes_eq other label ≡ same
+        → list_any (bytes_eq other) (insert_key bytes_eq labels label) ≡ (list_any (bytes_eq other) labels || bytes_eq other label)
+    by true true there same = let here : list_any (bytes_eq other) labels ≡ true = list_any_congr nat_list_eq_equiv other label labels same ∙ there in rw (there, same, here) refl
+    by true false there same = rw (there, same) (or-false (list_any (bytes_eq other) labels))
+    by false same new e = rw new (list_any-append (bytes_eq other) labels (label ∷ []) ∙ ap (λ b. list_any (bytes_eq other) labels || b) (sym (or-false (bytes_eq other label))))
+
+list_any-insert_all : (labels more : List Label) (other : Label) → list_any (bytes_eq other) (insert_all bytes_eq labels more) ≡ (list_any (bytes_eq other) labels || list_any (bytes_eq other) more)
+list_any-insert_all labels [] other = or-false (list_any (bytes_eq other) labels)
+list_any-insert_all labels (label ∷ more) other =
+    list_any-insert_all (insert_key bytes_eq labels label) more other
+    ∙ ap (λ b. b || list_any (bytes_eq other) more) (list_any-insert_key labels label other)
+    ∙ or-later (list_any (bytes_eq other) labels) (bytes_eq other label) (list_any (bytes_eq other) more)
+
 -- ---- labels of steps
+pub length-labels_of : (steps more : List Step) → length (labels_of steps) ≤ length (labels_of (steps ++ more))
+length-labels_of steps more =
+    let both : labels_of (steps ++ more) ≡ fold (insert_key bytes_eq) (labels_of steps) (map (λ step. step.label) more) =
+    ap (fold (insert_key bytes_eq) []) (map-append (λ step. step.label) steps more) ∙ fold-append (insert_key bytes_eq) [] (map (λ step. step.label) steps) (map (λ step. step.label) more) in
+    rw both (length-insert_all (labels_of steps) (map (λ step. step.label) more))
+
+pub list_any-map : {X Y : Type 0} (p : Y → Bool) (f : X → Y) (xs : List X) → list_any p (map f xs) ≡ list_any (λ x. p (f x)) xs
+list_any-map p f [] = refl
+list_any-map p f (x ∷ xs) = rw (list_any-map p f xs) refl
+
+-- a label is among them exactly where some step has it
+pub list_any-labels_of : (steps : List Step) (label : Label) → list_any (bytes_eq label) (labels_of steps) ≡ list_any (λ step. bytes_eq label step.label) steps
+list_any-labels_of steps label = list_any-insert_all [] (map (λ step. step.label) steps) label ∙ list_any-map (bytes_eq label) (λ step. step.label) steps
+
 labels_of-has : (steps : List Step) (step : Step) → Contains steps step → Contains (labels_of steps) step.label
 labels_of-has steps step (place, within, at) =
     let found : slice_get steps place ≡ Some step = slice_get-get_or steps place step within ∙ ap Some at in

@@ -1,9 +1,9 @@
 use Rattle.std.proofs.Common.{◌≡◌, ◌∙◌, subst, position, rules}
 use Rattle.std.specs.Prelude.{None, Some}
 use Rattle.std.specs.Str.{bytes_eq}
-use Rattle.spectro_aut.specs.Labels.{labels_of}
-use Rattle.spectro_aut.proofs.Numbering.{number_of_label}
-use Rattle.spectro_aut.proofs.lts.Lts.label_no.Goals as goal
+use Rattle.spectro_lts.specs.Labels.{labels_of}
+use Rattle.spectro_lts.proofs.Numbering.{number_of_label}
+use Rattle.spectro_lts.proofs.lts.Lts.label_no.Goals as goal
 
 pub returns : goal.returns
 returns c =

@@ -2,11 +2,11 @@ use Rattle.std.proofs.Common.{◌≡◌, ◌<◌, ◌∙◌, ◌∷◌, [], ◌+
 use Rattle.std.specs.Prelude.{string_bytes}
 use Rattle.std.specs.declared.alloc.Global.{Global}
 use Rattle.std.proofs.lemmas.List.{length-map}
-use Rattle.spectro_aut.specs.Labels.{labels_of}
-use Rattle.spectro_aut.specs.Numbered.{labelled, steps_of, IsNumbered}
-use Rattle.spectro_aut.specs.declared.lts.Step.{Step}
-use Rattle.spectro_aut.proofs.Numbering.{added, added_steps}
-use Rattle.spectro_aut.proofs.lts.Lts.add.Goals as goal
+use Rattle.spectro_lts.specs.Labels.{labels_of}
+use Rattle.spectro_lts.specs.Numbered.{labelled, steps_of, IsNumbered}
+use Rattle.spectro_lts.specs.declared.lts.Step.{Step}
+use Rattle.spectro_lts.proofs.Numbering.{added, added_steps}
+use Rattle.spectro_lts.proofs.draft.Draft.add.Goals as goal
 
 pub invariant_of-self-2 : goal.invariant_of-self-2
 invariant_of-self-2 c =
@@ -18,7 +18,7 @@ invariant_of-self-2 c =
     let few_steps : length inside.steps.items < 2000000 = omega (arith, length-map inside.steps.items (labelled inside.labels.keys), ap (λ system. length system.steps) c.self.view_is, c.requires.few_steps) in
     let few_labels : length inside.labels.keys < 131072 = omega (arith, length-map inside.labels.keys (string_bytes {Z = Global}), ap length c.self.invariant.in_order, ap (λ system. length (labels_of system.steps)) c.self.view_is, c.requires.few_labels) in
     subst (IsNumbered inside.states inside.initial c.number_label.new.labels.keys) (sym items)
-    (added inside.states inside.initial inside.labels.keys c.number_label.new.labels.keys c.args.label.now inside.steps.items step c.self.invariant c.in_ok-label.ensures.ok from to few_steps few_labels)
+    (added inside.states inside.initial inside.labels.keys c.number_label.new.labels.keys c.args.label.now inside.steps.items step c.self.invariant c.in_ok-label.ensures.ok from to few_steps few_labels c.requires.label)
 
 pub returns-clause-ok : goal.returns-clause-ok
 returns-clause-ok c =

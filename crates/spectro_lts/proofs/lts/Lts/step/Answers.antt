@@ -2,10 +2,10 @@ use Rattle.std.proofs.Common.{◌<◌, length, ◌∙◌, subst, sym, ap, arith}
 use Rattle.std.specs.Prelude.{Some}
 use Rattle.std.proofs.lemmas.List.{length-map}
 use Rattle.std.proofs.lemmas.Option.{slice_get-get_or}
-use Rattle.spectro_aut.specs.Labels.{IsStepAt}
-use Rattle.spectro_aut.specs.Numbered.{labelled}
-use Rattle.spectro_aut.proofs.Numbering.{step_at}
-use Rattle.spectro_aut.proofs.lts.Lts.step.Goals as goal
+use Rattle.spectro_lts.specs.Labels.{IsStepAt}
+use Rattle.spectro_lts.specs.Numbered.{labelled}
+use Rattle.spectro_lts.proofs.Numbering.{step_at}
+use Rattle.spectro_lts.proofs.lts.Lts.step.Goals as goal
 
 pub returns-clause-step : goal.returns-clause-step
 returns-clause-step c =

@@ -1,6 +1,6 @@
 use Rattle.std.proofs.Common.{sym}
-use Rattle.spectro_aut.proofs.Numbering.{given_old, given_new}
-use Rattle.spectro_aut.proofs.lts.number_label.Goals as goal
+use Rattle.spectro_lts.proofs.Numbering.{given_old, given_new}
+use Rattle.spectro_lts.proofs.draft.number_label.Goals as goal
 
 pub returns-in-Some-clause-ok : goal.returns-in-Some-clause-ok
 returns-in-Some-clause-ok c =

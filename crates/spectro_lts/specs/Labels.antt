@@ -1,5 +1,5 @@
 -- The labels of steps by number.
-use Rattle.std.specs.Prelude.{◌≡◌, ℕ, List, [], map, slice_get, Some}
+use Rattle.std.specs.Prelude.{◌≡◌, ◌≤◌, ℕ, List, [], length, map, slice_get, Some, Contains}
 use Rattle.std.specs.Str.{bytes_eq}
 use Rattle.indexmap.specs.IndexSet.{insert_all}
 use Rattle.spectro_spec.specs.System.{Label, Step}
@@ -7,6 +7,11 @@ use Rattle.spectro_spec.specs.System.{Label, Step}
 -- the labels of the steps, each once, in the order in which they first stand
 abbrev pub labels_of : List Step → List Label
 labels_of steps = insert_all bytes_eq [] (map (λ step. step.label) steps)
+
+-- a label has at most 8192 bytes, and none of them ends a line
+pub record IsLabel (text : Label) : Type 0 where
+  pub short : length text ≤ 8192
+  pub one_line : ¬ Contains text 10
 
 -- the step at this place has these states, and the label of this number
 pub record IsStepAt (steps : List Step) (place source label_no target : ℕ) : Type 0 where

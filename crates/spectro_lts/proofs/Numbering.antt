@@ -13,9 +13,10 @@ use Rattle.std.proofs.lemmas.Slice.Eq.{bytes_eq-Decides}
 use Rattle.std.proofs.Math.ListN.{get_or}
 use Rattle.indexmap.specs.IndexSet.{insert_key}
 use Rattle.spectro_spec.specs.System as spec
-use Rattle.spectro_aut.specs.Labels.{labels_of, IsStepAt}
-use Rattle.spectro_aut.specs.Numbered.{label_at, labelled, steps_of, IsNumbered, GivesNumber}
-use Rattle.spectro_aut.specs.declared.lts.Step.{Step}
+use Rattle.spectro_lts.specs.Labels.{labels_of, IsLabel, IsStepAt}
+use Rattle.spectro_lts.specs.Numbered.{label_at, labelled, steps_of, IsNumbered, GivesNumber}
+use Rattle.spectro_lts.specs.declared.lts.Step.{Step}
+use Rattle.spectro_lts.proofs.LabelLaws.{list_any-map, list_any-labels_of}
 
 -- the first place is that of the items before they are mapped
 prefix_len-map : {X Y : Type 0} (p : Y → Bool) (f : X → Y) (xs : List X) → prefix_len p (map f xs) ≡ prefix_len (λ x. p (f x)) xs
@@ -24,10 +25,6 @@ prefix_len-map p f (x ∷ xs) = rw (prefix_len-map p f xs) refl
 
 position-map : {X Y : Type 0} (p : Y → Bool) (f : X → Y) (xs : List X) → position p (map f xs) ≡ position (λ x. p (f x)) xs
 position-map p f xs = rw (prefix_len-map _ f xs, length-map xs f) refl
-
-list_any-map : {X Y : Type 0} (p : Y → Bool) (f : X → Y) (xs : List X) → list_any p (map f xs) ≡ list_any (λ x. p (f x)) xs
-list_any-map p f [] = refl
-list_any-map p f (x ∷ xs) = rw (list_any-map p f xs) refl
 
 -- a label that is found stands at its number
 found_label : (labels : List (String Global)) (label : spec.Label) (label_no : ℕ) → position (λ key. bytes_eq label (string_bytes key)) labels ≡ Some label_no → slice_get (map string_bytes labels) label_no ≡ Some label
@@ -41,6 +38,7 @@ given_old labels label label_no e there = record {
   more = [];
   front = sym (append-nil labels);
   few = omega arith;
+  alike = λ place default within. absurd (omega arith);
   labels = rw (list_any-map (bytes_eq label) string_bytes labels, there) refl;
   found = found_label labels label label_no e;
 }
@@ -58,6 +56,7 @@ given_new labels label value new label_no same none whole stored at equal =
       more = value ∷ [];
       front = behind;
       few = omega arith;
+      alike = λ place default within. grind arith;
       labels = ap (map string_bytes) behind ∙ map-append string_bytes labels (value ∷ []) ∙ ap (λ text. map string_bytes labels ++ text ∷ []) same ∙ sym (rw (list_any-map (bytes_eq label) string_bytes labels, none) refl);
       found = slice_get-map string_bytes new label_no ∙ rw at (ap Some (sym ((bytes_eq-Decides (string_bytes value) (string_bytes stored)).0 equal) ∙ same));
     }
@@ -92,8 +91,8 @@ labels_of-push : (steps : List spec.Step) (step : spec.Step) → labels_of (step
 labels_of-push steps step = rw (map-append (λ step. step.label) steps (step ∷ [])) (fold-append (insert_key bytes_eq) [] (map (λ step. step.label) steps) (step.label ∷ []))
 
 pub added : (states first : ℕ) (old new : List (String Global)) (label : spec.Label) (steps : List Step) (step : Step) → IsNumbered states first old steps → GivesNumber old label new step.label
-    → step.from < states → step.to < states → length steps < 2000000 → length old < 131072 → IsNumbered states first new (steps ++ step ∷ [])
-added states first old new label steps step numbered given from to few_steps few_labels =
+    → step.from < states → step.to < states → length steps < 2000000 → length old < 131072 → IsLabel label → IsNumbered states first new (steps ++ step ∷ [])
+added states first old new label steps step numbered given from to few_steps few_labels is_label =
     let longer : length new ≡ length old + length given.more = ap length given.front ∙ length-append old given.more in
     let here : step.label < length new = omega (arith, slice_get_within (map string_bytes new) step.label label given.found, length-map new (string_bytes {Z = Global})) in
     let few : length given.more ≤ 1 = given.few in
@@ -106,6 +105,7 @@ added states first old new label steps step numbered given from to few_steps few
       sources = All-append (λ step. step.from < states) steps (step ∷ []) numbered.sources (λ place default within. grind arith);
       targets = All-append (λ step. step.to < states) steps (step ∷ []) numbered.targets (λ place default within. grind arith);
       numbers = All-append (λ step. step.label < length new) steps (step ∷ []) numbers (λ place default within. grind arith);
+      short_labels = subst (All (λ key. IsLabel (string_bytes key))) (sym given.front) (All-append (λ key. IsLabel (string_bytes key)) old given.more numbered.short_labels (λ place default within. subst IsLabel (sym (given.alike place default within)) is_label));
       in_order = given.labels
           ∙ ap (λ labels. insert_key bytes_eq labels label) numbered.in_order
           ∙ sym (ap labels_of (added_steps old new label steps step numbered.numbers given) ∙ labels_of-push (steps_of old steps) (record { source = step.from; label = label; target = step.to }));
@@ -138,3 +138,9 @@ step_at states first labels steps place step numbered at =
 pub number_of_label : (states first : ℕ) (labels : List (String Global)) (steps : List Step) (label : spec.Label) → IsNumbered states first labels steps
     → position (λ key. bytes_eq label (string_bytes key)) labels ≡ position (bytes_eq label) (labels_of (steps_of labels steps))
 number_of_label states first labels steps label numbered = sym (position-map (bytes_eq label) string_bytes labels) ∙ ap (position (bytes_eq label)) numbered.in_order
+
+-- a key has the label exactly where some step has it
+pub has_label : (states first : ℕ) (labels : List (String Global)) (steps : List Step) (label : spec.Label) → IsNumbered states first labels steps
+    → list_any (λ key. bytes_eq label (string_bytes key)) labels ≡ list_any (λ step. bytes_eq label step.label) (steps_of labels steps)
+has_label states first labels steps label numbered =
+    sym (list_any-map (bytes_eq label) string_bytes labels) ∙ ap (list_any (bytes_eq label)) numbered.in_order ∙ list_any-labels_of (steps_of labels steps) label

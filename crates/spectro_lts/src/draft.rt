@@ -1,0 +1,149 @@
+ghost use Rattle.std.specs.Prelude.{◌≡◌, ◌<◌, ◌≤◌, [], ◌∷◌, ◌++◌, length, IfOk, OnOk, OnErr};
+ghost use Rattle.std.specs.List.{list_any};
+ghost use Rattle.std.specs.Str.{bytes_eq};
+ghost use Rattle.spectro_lts.specs.Labels.{labels_of, IsLabel};
+ghost use Rattle.spectro_lts.specs.Numbered.{GivesNumber};
+
+use crate::{Lts, Step};
+use indexmap::IndexSet;
+use std::alloc::{AllocError, Global};
+use std::marker::Model;
+
+/// A system to which steps are added one by one.
+#[derive(Drop)]
+pub struct Draft {
+    states: u32,
+    initial: u32,
+    labels: IndexSet<String>,
+    steps: Vec<Step>,
+}
+
+impl Model for Draft {
+    ghost use Rattle.spectro_spec.specs.System.{System};
+    ghost use Rattle.spectro_lts.specs.Numbered.{steps_of, IsNumbered};
+
+    ghost Value = { System };
+
+    ghost view = { λ d. record { states = d.states; initial = d.initial; steps = steps_of d.labels.keys d.steps.items } };
+
+    ghost invariant = { λ d. IsNumbered d.states d.initial d.labels.keys d.steps.items };
+}
+
+impl Draft {
+    /// A draft without steps.
+    pub fn new(alloc: Global, states: u32, initial: u32) -> Result<Draft, AllocError>
+        requires few { states ≤ 131072 }
+        requires in_range { initial < states }
+        ensures { IfOk result (λ draft. draft ≡ record { states = states; initial = initial; steps = [] }) }
+    {
+        Ok(Draft {
+            states,
+            initial,
+            labels: IndexSet::new(alloc),
+            steps: Vec::new(alloc),
+        })
+    }
+
+    /// Adds a step at the end.
+    pub fn add(&mut self, from: u32, label: &str, to: u32) -> Result<(), AllocError>
+        requires from_in_range { from < self.old.states }
+        requires to_in_range { to < self.old.states }
+        requires few_steps { length self.old.steps < 2000000 }
+        requires few_labels { length (labels_of self.old.steps) < 131072 }
+        requires label { IsLabel label.now }
+        ensures ok { OnOk result (self.new ≡ record self.old { steps = self.old.steps ++ record { source = from; label = label.now; target = to } ∷ [] }) }
+        ensures err { OnErr result (self.new ≡ self.old) }
+    {
+        self.steps.reserve(1)?;
+        let alloc = *self.steps.allocator();
+        let label = number_label(alloc, &mut self.labels, label)?;
+        self.steps.push_reserved(Step { from, label, to });
+        Ok(())
+    }
+
+    /// How many steps there are, repeats counted.
+    pub fn step_count(&self) -> u32
+        ensures value { result ≡ length self.now.steps }
+        ensures bound { result ≤ 2000000 }
+    {
+        self.steps.len() as u32
+    }
+
+    /// How many labels there are.
+    pub fn label_count(&self) -> u32
+        ensures value { result ≡ length (labels_of self.now.steps) }
+        ensures bound { result ≤ 131072 }
+    {
+        self.labels.len() as u32
+    }
+
+    /// Whether some step has the label.
+    pub fn has_label(&self, label: &str) -> bool
+        ensures { result ≡ list_any (λ step. bytes_eq label.now step.label) self.now.steps }
+    {
+        self.labels.contains(label)
+    }
+
+    /// The system of the draft.
+    pub fn finish(self) -> Result<Lts, AllocError>
+        ensures { IfOk result (λ lts. lts ≡ self) }
+    {
+        Ok(Lts {
+            states: self.states,
+            initial: self.initial,
+            labels: self.labels,
+            steps: self.steps,
+        })
+    }
+}
+
+// The number of the label, which goes behind the others if it is new.
+fn number_label(
+    alloc: Global,
+    labels: &mut IndexSet<String>,
+    label: &str,
+) -> Result<u32, AllocError>
+    requires { length labels.old.keys < 131072 }
+    ensures ok { IfOk result (GivesNumber labels.old.keys label.now labels.new.keys) }
+    ensures err { OnErr result (labels.new.keys ≡ labels.old.keys) }
+{
+    if let Some(no) = labels.get_index_of(label) {
+        return Ok(no as u32);
+    }
+    let (no, _) = labels.insert_full(String::from_str(alloc, label)?)?;
+    Ok(no as u32)
+}
+
+#[cfg(test)]
+mod tests {
+    use super::*;
+    use std::test::Fail;
+
+    #[test]
+    fn numbers_labels_where_they_first_stand(rt: HostRuntime) -> Result<(), Fail> {
+        let mut draft = Draft::new(rt.alloc(), 3, 1)?;
+        assert!(rt; !draft.has_label("tea"));
+        draft.add(1, "tea", 2)?;
+        draft.add(0, "coin", 1)?;
+        draft.add(2, "tea", 2)?;
+        assert_eq!(rt; draft.step_count(), 3);
+        assert_eq!(rt; draft.label_count(), 2);
+        assert!(rt; draft.has_label("coin"));
+        assert!(rt; !draft.has_label("coi"));
+
+        let lts = draft.finish()?;
+        assert_eq!(rt; lts.states(), 3);
+        assert_eq!(rt; lts.initial(), 1);
+        assert_eq!(rt; lts.step_count(), 3);
+        for (k, from, label, to) in [(0, 1, 0, 2), (1, 0, 1, 1), (2, 2, 0, 2)] {
+            assert_eq!(rt; lts.step(k), Step { from, label, to }, "step {k}");
+        }
+        assert_eq!(rt; lts.label_count(), 2);
+        assert_eq!(rt; lts.label(0), "tea");
+        assert_eq!(rt; lts.label(1), "coin");
+        assert_eq!(rt; lts.label_no("tea"), Some(0));
+        assert_eq!(rt; lts.label_no("coin"), Some(1));
+        assert_eq!(rt; lts.label_no("coi"), None);
+        Ok(())
+    }
+}
