@@ -15,7 +15,7 @@ use Rattle.indexmap.specs.IndexSet.{insert_key}
 use Rattle.spectro_spec.specs.System as spec
 use Rattle.spectro_lts.specs.Labels.{labels_of, IsLabel, IsStepAt}
 use Rattle.spectro_lts.specs.Numbered.{label_at, labelled, steps_of, IsNumbered, GivesNumber}
-use Rattle.spectro_lts.specs.declared.lts.Step.{Step}
+use Rattle.spectro_lts.specs.declared.step.Step.{Step}
 use Rattle.spectro_lts.proofs.LabelLaws.{list_any-map, list_any-labels_of}
 
 -- the first place is that of the items before they are mapped

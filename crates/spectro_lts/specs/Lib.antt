@@ -1,2 +1,4 @@
 pub mod Labels
 pub mod Numbered
+pub mod Tables
+pub mod Named

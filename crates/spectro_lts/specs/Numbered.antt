@@ -6,7 +6,7 @@ use Rattle.std.specs.Str.{bytes_eq}
 use Rattle.indexmap.specs.IndexSet.{insert_key}
 use Rattle.spectro_spec.specs.System as spec
 use Rattle.spectro_lts.specs.Labels.{labels_of, IsLabel}
-use Rattle.spectro_lts.specs.declared.lts.Step.{Step}
+use Rattle.spectro_lts.specs.declared.step.Step.{Step}
 
 -- the label of this number
 abbrev pub label_at : List (String Global) → ℕ → spec.Label

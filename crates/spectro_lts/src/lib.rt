@@ -3,6 +3,12 @@
 
 mod draft;
 mod lts;
+mod named;
+mod step;
+mod table;
 
 pub use draft::Draft;
-pub use lts::{Lts, Step};
+pub use lts::Lts;
+pub use named::{labels_are_by_name, successors_are_by_name};
+pub use step::Step;
+pub use table::Table;

@@ -3,16 +3,9 @@ ghost use Rattle.std.specs.Str.{bytes_eq};
 ghost use Rattle.spectro_spec.specs.System.{IsWhole};
 ghost use Rattle.spectro_lts.specs.Labels.{labels_of, IsLabel, IsStepAt};
 
+use crate::Step;
 use indexmap::IndexSet;
 use std::marker::Model;
-
-/// A step: the number of its source, of its label and of its target.
-#[derive(Clone, Copy, Debug, PartialEq, Eq)]
-pub struct Step {
-    pub from: u32,
-    pub label: u32,
-    pub to: u32,
-}
 
 /// A labelled transition system. Its labels are numbered from 0 in the order in which they first stand.
 #[derive(Drop)]

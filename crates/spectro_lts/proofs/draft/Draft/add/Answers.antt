@@ -4,7 +4,7 @@ use Rattle.std.specs.declared.alloc.Global.{Global}
 use Rattle.std.proofs.lemmas.List.{length-map}
 use Rattle.spectro_lts.specs.Labels.{labels_of}
 use Rattle.spectro_lts.specs.Numbered.{labelled, steps_of, IsNumbered}
-use Rattle.spectro_lts.specs.declared.lts.Step.{Step}
+use Rattle.spectro_lts.specs.declared.step.Step.{Step}
 use Rattle.spectro_lts.proofs.Numbering.{added, added_steps}
 use Rattle.spectro_lts.proofs.draft.Draft.add.Goals as goal
 
