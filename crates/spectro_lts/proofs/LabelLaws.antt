@@ -1,5 +1,5 @@
 -- The labels of steps, each once: each has one number, and what has none is the label of no step.
-use Rattle.std.proofs.Common.{◌≡◌, ◌∙◌, ◌⊎◌, inl, inr, ℕ, ◌<◌, ◌≤◌, nat_lt, ◌||◌, Bool, true, false, suc, zero, List, [], ◌∷◌, ◌++◌, length, length-append, map, fold, Contains, slice_get, position, Some, None, refl, sym, ap, subst, arith}
+use Rattle.std.proofs.Common.{◌≡◌, ◌∙◌, ◌⊎◌, inl, inr, ℕ, ◌+◌, ◌<◌, ◌≤◌, nat_lt, ◌||◌, Bool, true, false, suc, zero, List, [], ◌∷◌, ◌++◌, length, length-append, map, fold, Contains, slice_get, position, Some, None, refl, sym, ap, subst, arith}
 use Rattle.std.specs.List.{list_any, IsDistinct, position_or_len}
 use Rattle.std.specs.Str.{bytes_eq}
 use Rattle.std.proofs.Math.ListN.{get_or}
@@ -68,6 +68,13 @@ length-insert_all : (labels more : List Label) → length labels ≤ length (fol
 length-insert_all labels [] = omega arith
 length-insert_all labels (label ∷ more) = omega (arith, length-insert_key labels label, length-insert_all (insert_key bytes_eq labels label) more)
 
+length-insert_key_most : (labels : List Label) (label : Label) → length (insert_key bytes_eq labels label) ≤ length labels + 1
+length-insert_key_most labels label = by (list_any (bytes_eq label) labels) refl
+  where
+    by : (there : Bool) → list_any (bytes_eq label) labels ≡ there → length (insert_key bytes_eq labels label) ≤ length labels + 1
+    by true e = rw e (omega arith)
+    by false e = rw e (omega (arith, length-append labels (label ∷ [])))
+
 -- a label is among those put in where it was before, or is one of them
 or-false : (b : Bool) → b ≡ (b || false)
 or-false true = refl
@@ -93,12 +100,47 @@ list_any-insert_all labels (label ∷ more) other =
     ∙ ap (λ b. b || list_any (bytes_eq other) more) (list_any-insert_key labels label other)
     ∙ or-later (list_any (bytes_eq other) labels) (bytes_eq other label) (list_any (bytes_eq other) more)
 
+-- a list that has those of another grows by no more than it
+or-mono : (a b c : Bool) → (a ≡ true → b ≡ true) → (a || c) ≡ true → (b || c) ≡ true
+or-mono true b c more e = rw (more refl) refl
+or-mono false true c more e = refl
+or-mono false false c more e = e
+
+length-insert_key_apart : (n : ℕ) (some all : List Label) (label : Label) → ((other : Label) → list_any (bytes_eq other) some ≡ true → list_any (bytes_eq other) all ≡ true) → length all ≤ n + length some
+    → length (insert_key bytes_eq all label) ≤ n + length (insert_key bytes_eq some label)
+length-insert_key_apart n some all label more few = by (list_any (bytes_eq label) all) (list_any (bytes_eq label) some) refl refl
+  where
+    by : (there here : Bool) → list_any (bytes_eq label) all ≡ there → list_any (bytes_eq label) some ≡ here → length (insert_key bytes_eq all label) ≤ n + length (insert_key bytes_eq some label)
+    by true here there e = rw there (omega (arith, few, length-insert_key some label))
+    by false true there e = let both = more label e in cc
+    by false false there e = rw (there, e) (omega (arith, few, length-append all (label ∷ []), length-append some (label ∷ [])))
+
+length-insert_all_apart : (n : ℕ) (some all more : List Label) → ((other : Label) → list_any (bytes_eq other) some ≡ true → list_any (bytes_eq other) all ≡ true) → length all ≤ n + length some
+    → length (fold (insert_key bytes_eq) all more) ≤ n + length (insert_all bytes_eq some more)
+length-insert_all_apart n some all [] has few = few
+length-insert_all_apart n some all (label ∷ more) has few =
+    length-insert_all_apart n (insert_key bytes_eq some label) (insert_key bytes_eq all label) more
+    (λ other e. list_any-insert_key all label other ∙ or-mono (list_any (bytes_eq other) some) (list_any (bytes_eq other) all) (bytes_eq other label) (has other) (sym (list_any-insert_key some label other) ∙ e))
+    (length-insert_key_apart n some all label has few)
+
 -- ---- labels of steps
+labels_of-append : (steps more : List Step) → labels_of (steps ++ more) ≡ fold (insert_key bytes_eq) (labels_of steps) (map (λ step. step.label) more)
+labels_of-append steps more =
+    ap (fold (insert_key bytes_eq) []) (map-append (λ step. step.label) steps more) ∙ fold-append (insert_key bytes_eq) [] (map (λ step. step.label) steps) (map (λ step. step.label) more)
+
+pub labels_of-push : (steps : List Step) (step : Step) → labels_of (steps ++ step ∷ []) ≡ insert_key bytes_eq (labels_of steps) step.label
+labels_of-push steps step = labels_of-append steps (step ∷ [])
+
 pub length-labels_of : (steps more : List Step) → length (labels_of steps) ≤ length (labels_of (steps ++ more))
-length-labels_of steps more =
-    let both : labels_of (steps ++ more) ≡ fold (insert_key bytes_eq) (labels_of steps) (map (λ step. step.label) more) =
-    ap (fold (insert_key bytes_eq) []) (map-append (λ step. step.label) steps more) ∙ fold-append (insert_key bytes_eq) [] (map (λ step. step.label) steps) (map (λ step. step.label) more) in
-    rw both (length-insert_all (labels_of steps) (map (λ step. step.label) more))
+length-labels_of steps more = rw (labels_of-append steps more) (length-insert_all (labels_of steps) (map (λ step. step.label) more))
+
+-- a step brings at most one label, and steps bring at most their own
+pub length-labels_of_push : (steps : List Step) (step : Step) → length (labels_of (steps ++ step ∷ [])) ≤ length (labels_of steps) + 1
+length-labels_of_push steps step = rw (labels_of-push steps step) (length-insert_key_most (labels_of steps) step.label)
+
+pub length-labels_of_append : (steps more : List Step) → length (labels_of (steps ++ more)) ≤ length (labels_of steps) + length (labels_of more)
+length-labels_of_append steps more =
+    rw (labels_of-append steps more) (length-insert_all_apart (length (labels_of steps)) [] (labels_of steps) (map (λ step. step.label) more) (λ label e. cc) (omega arith))
 
 pub list_any-map : {X Y : Type 0} (p : Y → Bool) (f : X → Y) (xs : List X) → list_any p (map f xs) ≡ list_any (λ x. p (f x)) xs
 list_any-map p f [] = refl

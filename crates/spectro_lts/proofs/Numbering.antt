@@ -7,7 +7,6 @@ use Rattle.std.specs.declared.alloc.Global.{Global}
 use Rattle.std.proofs.lemmas.List.{map-append, length-map}
 use Rattle.std.proofs.lemmas.List.Elements.{All-append, All-map}
 use Rattle.std.proofs.lemmas.List.Quantifiers.{position-Some}
-use Rattle.std.proofs.lemmas.List.Sums.{fold-append}
 use Rattle.std.proofs.lemmas.Option.{slice_get-map, slice_get-get_or, slice_get_within, get_or_from_slice_get}
 use Rattle.std.proofs.lemmas.Slice.Eq.{bytes_eq-Decides}
 use Rattle.std.proofs.Math.ListN.{get_or}
@@ -16,7 +15,7 @@ use Rattle.spectro_spec.specs.System as spec
 use Rattle.spectro_lts.specs.Labels.{labels_of, IsLabel, IsStepAt}
 use Rattle.spectro_lts.specs.Numbered.{label_at, labelled, steps_of, IsNumbered, GivesNumber}
 use Rattle.spectro_lts.specs.declared.step.Step.{Step}
-use Rattle.spectro_lts.proofs.LabelLaws.{list_any-map, list_any-labels_of}
+use Rattle.spectro_lts.proofs.LabelLaws.{list_any-map, list_any-labels_of, labels_of-push}
 
 -- the first place is that of the items before they are mapped
 prefix_len-map : {X Y : Type 0} (p : Y → Bool) (f : X → Y) (xs : List X) → prefix_len p (map f xs) ≡ prefix_len (λ x. p (f x)) xs
@@ -87,21 +86,17 @@ added_steps old new label steps step numbers given =
     let here = label_at-found new label step.label given.found in
     map-append (labelled new) steps (step ∷ []) ∙ rw (kept, here) refl
 
-labels_of-push : (steps : List spec.Step) (step : spec.Step) → labels_of (steps ++ step ∷ []) ≡ insert_key bytes_eq (labels_of steps) step.label
-labels_of-push steps step = rw (map-append (λ step. step.label) steps (step ∷ [])) (fold-append (insert_key bytes_eq) [] (map (λ step. step.label) steps) (step.label ∷ []))
-
 pub added : (states first : ℕ) (old new : List (String Global)) (label : spec.Label) (steps : List Step) (step : Step) → IsNumbered states first old steps → GivesNumber old label new step.label
-    → step.from < states → step.to < states → length steps < 2000000 → length old < 131072 → IsLabel label → IsNumbered states first new (steps ++ step ∷ [])
+    → step.from < states → step.to < states → length steps < 2000000 → length (insert_key bytes_eq (map string_bytes old) label) ≤ 131072 → IsLabel label → IsNumbered states first new (steps ++ step ∷ [])
 added states first old new label steps step numbered given from to few_steps few_labels is_label =
     let longer : length new ≡ length old + length given.more = ap length given.front ∙ length-append old given.more in
     let here : step.label < length new = omega (arith, slice_get_within (map string_bytes new) step.label label given.found, length-map new (string_bytes {Z = Global})) in
-    let few : length given.more ≤ 1 = given.few in
     let numbers : All (λ step. step.label < length new) steps = λ place default within. omega (arith, numbered.numbers place default within) in
     record {
       few_states = numbered.few_states;
       initial = numbered.initial;
       few_steps = omega (arith, length-append steps (step ∷ []));
-      few_labels = omega arith;
+      few_labels = omega (arith, ap length given.labels, length-map new (string_bytes {Z = Global}), few_labels);
       sources = All-append (λ step. step.from < states) steps (step ∷ []) numbered.sources (λ place default within. grind arith);
       targets = All-append (λ step. step.to < states) steps (step ∷ []) numbered.targets (λ place default within. grind arith);
       numbers = All-append (λ step. step.label < length new) steps (step ∷ []) numbers (λ place default within. grind arith);
@@ -110,6 +105,14 @@ added states first old new label steps step numbered given from to few_steps few
           ∙ ap (λ labels. insert_key bytes_eq labels label) numbered.in_order
           ∙ sym (ap labels_of (added_steps old new label steps step numbered.numbers given) ∙ labels_of-push (steps_of old steps) (record { source = step.from; label = label; target = step.to }));
     }
+
+-- with one more label the keys are as many as the labels of the steps with one more
+pub few_keys : (states first : ℕ) (labels : List (String Global)) (steps : List Step) (system : spec.System) (step : spec.Step) → IsNumbered states first labels steps
+    → record { states = states; initial = first; steps = steps_of labels steps } ≡ system → length (labels_of (system.steps ++ step ∷ [])) ≤ 131072 → length (insert_key bytes_eq (map string_bytes labels) step.label) ≤ 131072
+few_keys states first labels steps system step numbered same few =
+    let with_one : labels_of (system.steps ++ step ∷ []) ≡ insert_key bytes_eq (map string_bytes labels) step.label =
+    labels_of-push system.steps step ∙ ap (λ known. insert_key bytes_eq known step.label) (sym (numbered.in_order ∙ ap (λ system. labels_of system.steps) same)) in
+    subst (λ known. length known ≤ 131072) with_one few
 
 pub whole : (states first : ℕ) (labels : List (String Global)) (steps : List Step) → IsNumbered states first labels steps → spec.IsWhole (record { states = states; initial = first; steps = steps_of labels steps })
 whole states first labels steps numbered = record {

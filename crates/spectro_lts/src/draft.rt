@@ -1,6 +1,7 @@
-ghost use Rattle.std.specs.Prelude.{◌≡◌, ◌<◌, ◌≤◌, [], ◌∷◌, ◌++◌, length, IfOk, OnOk, OnErr};
+ghost use Rattle.std.specs.Prelude.{◌≡◌, ◌<◌, ◌≤◌, [], ◌∷◌, ◌++◌, length, map, string_bytes, IfOk, OnOk, OnErr};
 ghost use Rattle.std.specs.List.{list_any};
 ghost use Rattle.std.specs.Str.{bytes_eq};
+ghost use Rattle.indexmap.specs.IndexSet.{insert_key};
 ghost use Rattle.spectro_lts.specs.Labels.{labels_of, IsLabel};
 ghost use Rattle.spectro_lts.specs.Numbered.{GivesNumber};
 
@@ -54,6 +55,19 @@ impl Draft {
         ensures ok { OnOk result (self.new ≡ record self.old { steps = self.old.steps ++ record { source = from; label = label.now; target = to } ∷ [] }) }
         ensures err { OnErr result (self.new ≡ self.old) }
     {
+        self.put(from, label, to)
+    }
+
+    /// Adds a step at the end, where there is room for its label or the label stands already.
+    pub(crate) fn put(&mut self, from: u32, label: &str, to: u32) -> Result<(), AllocError>
+        requires from_in_range { from < self.old.states }
+        requires to_in_range { to < self.old.states }
+        requires few_steps { length self.old.steps < 2000000 }
+        requires few_labels { length (labels_of (self.old.steps ++ record { source = from; label = label.now; target = to } ∷ [])) ≤ 131072 }
+        requires label { IsLabel label.now }
+        ensures ok { OnOk result (self.new ≡ record self.old { steps = self.old.steps ++ record { source = from; label = label.now; target = to } ∷ [] }) }
+        ensures err { OnErr result (self.new ≡ self.old) }
+    {
         self.steps.reserve(1)?;
         let alloc = *self.steps.allocator();
         let label = number_label(alloc, &mut self.labels, label)?;
@@ -103,7 +117,7 @@ fn number_label(
     labels: &mut IndexSet<String>,
     label: &str,
 ) -> Result<u32, AllocError>
-    requires { length labels.old.keys < 131072 }
+    requires { length (insert_key bytes_eq (map string_bytes labels.old.keys) label.now) ≤ 131072 }
     ensures ok { IfOk result (GivesNumber labels.old.keys label.now labels.new.keys) }
     ensures err { OnErr result (labels.new.keys ≡ labels.old.keys) }
 {

@@ -2,6 +2,7 @@
 #![tactic(auto)]
 
 mod draft;
+mod join;
 mod lts;
 mod named;
 mod step;

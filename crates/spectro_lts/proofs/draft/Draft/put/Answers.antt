@@ -1,12 +1,9 @@
 use Rattle.std.proofs.Common.{◌≡◌, ◌<◌, ◌∙◌, ◌∷◌, [], ◌++◌, length, arith, refl, sym, ap, subst}
-use Rattle.std.specs.Prelude.{string_bytes}
-use Rattle.std.specs.declared.alloc.Global.{Global}
 use Rattle.std.proofs.lemmas.List.{length-map}
-use Rattle.spectro_lts.specs.Labels.{labels_of}
 use Rattle.spectro_lts.specs.Numbered.{labelled, steps_of, IsNumbered}
 use Rattle.spectro_lts.specs.declared.step.Step.{Step}
-use Rattle.spectro_lts.proofs.Numbering.{added, added_steps}
-use Rattle.spectro_lts.proofs.draft.Draft.add.Goals as goal
+use Rattle.spectro_lts.proofs.Numbering.{added, added_steps, few_keys}
+use Rattle.spectro_lts.proofs.draft.Draft.put.Goals as goal
 
 pub invariant_of-self-2 : goal.invariant_of-self-2
 invariant_of-self-2 c =
@@ -16,9 +13,14 @@ invariant_of-self-2 c =
     let from : c.args.from < inside.states = omega (arith, c.requires.from_in_range, ap (λ system. system.states) c.self.view_is) in
     let to : c.args.to < inside.states = omega (arith, c.requires.to_in_range, ap (λ system. system.states) c.self.view_is) in
     let few_steps : length inside.steps.items < 2000000 = omega (arith, length-map inside.steps.items (labelled inside.labels.keys), ap (λ system. length system.steps) c.self.view_is, c.requires.few_steps) in
-    let few_labels : length inside.labels.keys < 131072 = omega (arith, length-map inside.labels.keys (string_bytes {Z = Global}), ap length c.self.invariant.in_order, ap (λ system. length (labels_of system.steps)) c.self.view_is, c.requires.few_labels) in
+    let few_labels = few_keys inside.states inside.initial inside.labels.keys inside.steps.items c.args.self.now (record { source = c.args.from; label = c.args.label.now; target = c.args.to }) c.self.invariant c.self.view_is c.requires.few_labels in
     subst (IsNumbered inside.states inside.initial c.number_label.new.labels.keys) (sym items)
     (added inside.states inside.initial inside.labels.keys c.number_label.new.labels.keys c.args.label.now inside.steps.items step c.self.invariant c.in_ok-label.ensures.ok from to few_steps few_labels c.requires.label)
+
+pub number_label-requires : goal.number_label-requires
+number_label-requires c =
+    let inside = c.self.inside in
+    few_keys inside.states inside.initial inside.labels.keys inside.steps.items c.args.self.now (record { source = c.args.from; label = c.args.label.now; target = c.args.to }) c.self.invariant c.self.view_is c.requires.few_labels
 
 pub returns-clause-ok : goal.returns-clause-ok
 returns-clause-ok c =

@@ -1,0 +1,70 @@
+ghost use Rattle.std.specs.Prelude.{◌≡◌, ◌+◌, ◌≤◌, ◌++◌, length, map, IfOk};
+ghost use Rattle.spectro_spec.specs.System.{shifted, join};
+ghost use Rattle.spectro_lts.specs.Labels.{labels_of};
+
+use crate::{Draft, Lts};
+use std::alloc::{AllocError, Global};
+
+impl Lts {
+    /// The two systems side by side. The states of the right follow those of the left.
+    pub fn join(alloc: Global, left: &Lts, right: &Lts) -> Result<Lts, AllocError>
+        requires left_states { left.now.states ≤ 65536 }
+        requires left_steps { length left.now.steps ≤ 1000000 }
+        requires left_labels { length (labels_of left.now.steps) ≤ 65536 }
+        requires right_states { right.now.states ≤ 65536 }
+        requires right_steps { length right.now.steps ≤ 1000000 }
+        requires right_labels { length (labels_of right.now.steps) ≤ 65536 }
+        ensures { IfOk result (λ lts. lts ≡ join left.now right.now) }
+    {
+        let shift = left.states();
+        let mut draft = Draft::new(alloc, shift + right.states(), left.initial())?;
+        add_shifted(&mut draft, 0, left)?;
+        add_shifted(&mut draft, shift, right)?;
+        draft.finish()
+    }
+}
+
+// Adds the steps of the system, with both ends of each moved up.
+fn add_shifted(draft: &mut Draft, by: u32, lts: &Lts) -> Result<(), AllocError>
+    requires few_states { draft.old.states ≤ 131072 }
+    requires in_range { by + lts.now.states ≤ draft.old.states }
+    requires few_steps { length draft.old.steps + length lts.now.steps ≤ 2000000 }
+    requires few_labels { length (labels_of draft.old.steps) + length (labels_of lts.now.steps) ≤ 131072 }
+    ensures { IfOk result (λ _. draft.new ≡ record draft.old { steps = draft.old.steps ++ map (shifted by) lts.now.steps }) }
+{
+    for k in 0..lts.step_count() {
+        let step = lts.step(k);
+        draft.put(by + step.from, lts.label(step.label), by + step.to)?;
+    }
+    Ok(())
+}
+
+#[cfg(test)]
+mod tests {
+    use super::*;
+    use crate::Step;
+    use std::test::Fail;
+
+    #[test]
+    fn puts_the_right_behind_the_left(rt: HostRuntime) -> Result<(), Fail> {
+        let mut draft = Draft::new(rt.alloc(), 2, 1)?;
+        draft.add(1, "a", 0)?;
+        draft.add(0, "b", 1)?;
+        let left = draft.finish()?;
+        let mut draft = Draft::new(rt.alloc(), 3, 0)?;
+        draft.add(0, "c", 2)?;
+        draft.add(2, "a", 1)?;
+        let right = draft.finish()?;
+
+        let both = Lts::join(rt.alloc(), &left, &right)?;
+        assert_eq!(rt; both.states(), 5);
+        assert_eq!(rt; both.initial(), 1);
+        assert_eq!(rt; both.step_count(), 4);
+        for (k, from, label, to) in [(0, 1, 0, 0), (1, 0, 1, 1), (2, 2, 2, 4), (3, 4, 0, 3)] {
+            assert_eq!(rt; both.step(k), Step { from, label, to }, "step {k}");
+        }
+        assert_eq!(rt; both.label_count(), 3);
+        assert_eq!(rt; both.label(2), "c");
+        Ok(())
+    }
+}
