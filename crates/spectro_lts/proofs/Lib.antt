@@ -1,8 +1,6 @@
 pub mod LabelLaws
 pub mod Numbering
 pub mod Joining
-pub mod TablesMembers
-pub mod TablesRising
 pub mod TablesCodes
 pub mod TablesSlices
 pub mod TablesAnswers

@@ -1,5 +1,7 @@
 pub mod Samples
 pub mod Members
+pub mod Membership
+pub mod Rising
 pub mod Pricing
 pub mod FirstSmaller
 pub mod SystemExamples

@@ -13,7 +13,7 @@ use Rattle.spectro_game.specs.Sup.{sup, zero_price}
 use Rattle.spectro_game.specs.Divisions.{Division, divisions}
 use Rattle.spectro_game.specs.BackwardStep.{AffordsClause, AffordsSplit, Affords}
 use Rattle.spectro_game.specs.Generations.{Table, members_of, observation_prices, clause_prices, subset_prices, lists_to_choose_from, sups_of_choices, split_prices, backward_step, generation}
-use Rattle.spectro_theory.proofs.Membership.{Contains-map, Contains-map_cases, Contains-flat_map, Contains-flat_map_cases}
+use Rattle.spectro_spec.proofs.Membership.{Contains-map, Contains-map_cases, Contains-flat_map, Contains-flat_map_cases}
 use Rattle.spectro_theory.proofs.PriceOrder.{IsAtMost-refl, IsAtMost-trans, inverse-monotone}
 use Rattle.spectro_theory.proofs.DivisionLists.{divisions-Divides, Contains-divisions}
 use Rattle.spectro_theory.proofs.MinimalElements.{by_test, minimal_elements-rises, minimal_elements-apart, Covers-from_minimal, Covers-minimal}

@@ -2,7 +2,7 @@
 use Rattle.std.proofs.Common.{ℕ, ◌⊎◌, inl, inr, List, [], ◌∷◌, subst, Contains}
 use Rattle.spectro_spec.proofs.Members.{Contains-later, Contains-cases, Contains-none}
 use Rattle.spectro_game.specs.Divisions.{IsDivided, nothing, to_left, to_right}
-use Rattle.spectro_theory.proofs.Membership.{Contains-first_is}
+use Rattle.spectro_spec.proofs.Membership.{Contains-first_is}
 
 pub IsDivided-all_right : (qs : List ℕ) → IsDivided qs [] qs
 IsDivided-all_right [] = nothing

@@ -3,7 +3,7 @@ use Rattle.std.proofs.Common.{◌≡◌, ◌≢◌, inl, inr, ℕ, List, [], ◌
 use Rattle.std.specs.List.{flat_map}
 use Rattle.spectro_spec.proofs.Members.{Contains-first, Contains-later, Contains-cases, Contains-none}
 use Rattle.spectro_game.specs.Divisions.{IsDivided, nothing, to_left, to_right, Division, both_ways, divisions}
-use Rattle.spectro_theory.proofs.Membership.{Contains-flat_map, Contains-flat_map_cases}
+use Rattle.spectro_spec.proofs.Membership.{Contains-flat_map, Contains-flat_map_cases}
 
 -- the parts of the division
 abbrev pub Divides : List ℕ → Division → Type 0

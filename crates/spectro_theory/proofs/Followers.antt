@@ -11,7 +11,7 @@ use Rattle.spectro_spec.proofs.Members.{Contains-first, Contains-later, Contains
 use Rattle.spectro_game.specs.Divisions.{IsDivided, Division, divisions}
 use Rattle.spectro_game.specs.Pairs.{Pair, is_before_text, placed_label, labels_from, observed_under, observed, subsets, swaps, followers, IsFollower, IsClosed}
 use Rattle.spectro_theory.specs.LawsOfPairs.{FollowsByCase}
-use Rattle.spectro_theory.proofs.Membership.{Contains-first_is, Contains-map, Contains-map_cases, Contains-flat_map, Contains-flat_map_cases, Contains-filter, Contains-filter_cases}
+use Rattle.spectro_spec.proofs.Membership.{Contains-first_is, Contains-map, Contains-map_cases, Contains-flat_map, Contains-flat_map_cases, Contains-filter, Contains-filter_cases}
 use Rattle.spectro_theory.proofs.Successors.{Contains-post, post-has}
 use Rattle.spectro_theory.proofs.DivisionLists.{divisions-Divides, later_divisions-TakesSome, Contains-later_divisions}
 use Rattle.spectro_theory.proofs.Closures.{IsClosedByCases}

@@ -1,9 +1,9 @@
 -- A list of least prices is known by what it covers.
 -- Rising lists with the same members are equal, and members that are apart are those of any list that covers as much.
-use Rattle.std.proofs.Common.{ℕ, ◌≡◌, ◌⊎◌, inl, inr, List, [], ◌∷◌, refl, sym, subst, Contains, arith}
+use Rattle.std.proofs.Common.{ℕ, ◌≡◌, ◌⊎◌, inl, inr, List, [], ◌∷◌, refl, sym, subst, Contains}
 use Rattle.spectro_spec.specs.System.{System}
 use Rattle.spectro_spec.specs.Weighing.{Weighing}
-use Rattle.spectro_spec.specs.Price.{Price, IsAtMost, parts, IsFirstSmaller}
+use Rattle.spectro_spec.specs.Price.{Price, IsAtMost, parts}
 use Rattle.spectro_spec.specs.Pricing.{price}
 use Rattle.spectro_spec.specs.LeastPrices.{Covers, Rises, AreApart, AreLeastPrices}
 use Rattle.spectro_spec.proofs.FirstSmaller.{IsFirstSmaller-irrefl, IsFirstSmaller-trans}

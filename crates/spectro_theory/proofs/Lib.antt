@@ -1,4 +1,3 @@
-pub mod Membership
 pub mod PriceOrder
 pub mod Successors
 pub mod Updates

@@ -15,7 +15,7 @@ use Rattle.spectro_game.specs.BackwardStep.{Listing, ListsAtMost, AffordsClause,
 use Rattle.spectro_game.specs.Generations.{Table, members_of, backward_step, generation}
 use Rattle.spectro_game.specs.Marks.{is_same_list, has_changed, is_marked}
 use Rattle.spectro_theory.specs.LawsOfGenerations.{HasChangedFollower}
-use Rattle.spectro_theory.proofs.Membership.{list_any-has, list_any-cases}
+use Rattle.spectro_spec.proofs.Membership.{list_any-has, list_any-cases}
 use Rattle.spectro_theory.proofs.PriceOrder.{IsAtMost-refl, IsAtMost-trans, inverse-monotone}
 use Rattle.spectro_theory.proofs.LeastLists.{same_by_cover}
 use Rattle.spectro_theory.proofs.MinimalElements.{by_test, parts-injective}

@@ -5,7 +5,7 @@ use Rattle.std.proofs.lemmas.Slice.Eq.{bytes_eq-Decides}
 use Rattle.std.specs.Str.{bytes_eq}
 use Rattle.spectro_spec.specs.System.{Label, Step, System, HasStep}
 use Rattle.spectro_spec.specs.Formula.{Formula, Clauses, see, all, no_clauses, plus, minus, Satisfies, SatisfiesEach}
-use Rattle.spectro_theory.proofs.Membership.{decide_member}
+use Rattle.spectro_spec.proofs.Membership.{decide_member}
 use Rattle.spectro_theory.specs.Splits.{HasPlus, HasMinus}
 
 decide_both : {A B : Type 0} → Dec A → Dec B → Dec (A × B)

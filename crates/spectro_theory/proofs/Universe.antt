@@ -11,11 +11,12 @@ use Rattle.spectro_game.specs.Pairs.{Pair, IsOneOf, IsClosed}
 use Rattle.spectro_game.specs.Generations.{generation}
 use Rattle.spectro_theory.specs.LawsOfPairs.{FollowsByCase}
 use Rattle.spectro_theory.specs.LawsOfNotions.{LeastPricesExist}
-use Rattle.spectro_theory.proofs.Membership.{Contains-map, Contains-map_cases, Contains-flat_map, Contains-flat_map_cases}
+use Rattle.spectro_spec.proofs.Membership.{Contains-map, Contains-map_cases, Contains-flat_map, Contains-flat_map_cases}
 use Rattle.spectro_theory.proofs.Satisfaction.{decide_number}
 use Rattle.spectro_theory.proofs.Divided.{IsDivided-all_right, divided_at, Contains-left}
 use Rattle.spectro_theory.proofs.DivisionLists.{divisions-Divides, Contains-divisions}
-use Rattle.spectro_theory.proofs.Successors.{Contains-post, Contains-rising, Contains-rising_cases, Ascends, rising-ascends}
+use Rattle.spectro_spec.proofs.Rising.{Contains-rising, Contains-rising_cases, Ascends, rising-ascends, ascends-below, above_first}
+use Rattle.spectro_theory.proofs.Successors.{Contains-post}
 use Rattle.spectro_theory.proofs.Followers.{IsFollower-iff}
 use Rattle.spectro_theory.proofs.Solved.{generation-late}
 
@@ -40,16 +41,6 @@ part_of_part nothing nothing = ([], nothing)
 part_of_part (to_left {q = q} outer) (to_left inner) = first_part q (part_of_part outer inner)
 part_of_part (to_left {q = q} outer) (to_right inner) = later_part q (part_of_part outer inner)
 part_of_part (to_right {q = q} outer) inner = later_part q (part_of_part outer inner)
-
-ascends-below : (n : ℕ) (ns : List ℕ) → Ascends (n ∷ ns) → (k : ℕ) → Contains ns k → n < k
-ascends-below n [] h k member = absurd (Contains-none k member)
-ascends-below n (m ∷ ns) h k member = elim (Contains-cases m ns k member) [
-  | inl e ↦ subst (λ x. n < x) e h.0
-  | inr later ↦ let above : m < k = ascends-below m ns h.1 k later in let below : n < m = h.0 in omega arith
-]
-
-above_first : (m : ℕ) (ms : List ℕ) (k : ℕ) → m < k → Contains (m ∷ ms) k → Contains ms k
-above_first m ms k above member = elim (Contains-cases m ms k member) [ inl e ↦ absurd (omega (arith, e, above)) | inr h ↦ h ]
 
 -- rising numbers that are all among other rising numbers are a part of them
 ascending_part : (ns ms : List ℕ) → Ascends ns → Ascends ms → ((k : ℕ) → Contains ns k → Contains ms k) → IsPart ms ns
