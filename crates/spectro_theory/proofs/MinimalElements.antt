@@ -22,7 +22,7 @@ by_test Q false d then other = other (λ p. true≢false (sym (d.1 p)))
 Decides-leb : (m n : ℕ) → Decides (leb m n) (m ≤ n)
 Decides-leb m n = (leb-true m n, le-leb m n)
 
-is_at_most-Decides : (e f : Price) → Decides (is_at_most e f) (IsAtMost e f)
+pub is_at_most-Decides : (e f : Price) → Decides (is_at_most e f) (IsAtMost e f)
 is_at_most-Decides e f = Decides-like (is_at_most e f) (λ h. omega arith) (λ h. omega arith)
     (Decides-and _ _ (Decides-leb e.observations f.observations)
     (Decides-and _ _ (Decides-leb e.conjunctions f.conjunctions)
@@ -32,7 +32,7 @@ is_at_most-Decides e f = Decides-like (is_at_most e f) (λ h. omega arith) (λ h
     (Decides-and _ _ (Decides-leb e.negations f.negations)
     (Decides-leb e.weighted_depth f.weighted_depth)))))))
 
-precedes-Decides : (ns ms : List ℕ) → Decides (precedes ns ms) (IsFirstSmaller ns ms)
+pub precedes-Decides : (ns ms : List ℕ) → Decides (precedes ns ms) (IsFirstSmaller ns ms)
 precedes-Decides [] ms = ((λ h. cc), λ h. absurd h)
 precedes-Decides (n ∷ ns) [] = ((λ h. cc), λ h. absurd h)
 precedes-Decides (n ∷ ns) (m ∷ ms) = Decides-or (ltb n m) _ (Decides-ltb n m) (Decides-and (eqb n m) (precedes ns ms) (Decides-eqb n m) (precedes-Decides ns ms))
@@ -172,12 +172,12 @@ inserted-covers e es f h = by_test (λ b. Covers (inserted_by b e es) f) (some_c
           (λ apart. (f, member-placed_price e (not_above e es) f (inr (member-not_above e es f member apart)), IsAtMost-refl f))
     ])
 
-inserted-rises : (e : Price) (es : List Price) → Rises es → Rises (inserted e es)
+pub inserted-rises : (e : Price) (es : List Price) → Rises es → Rises (inserted e es)
 inserted-rises e es rises = by_test (λ b. Rises (inserted_by b e es)) (some_covers es e) (some_covers-Decides es e)
     (λ _. rises)
     (λ _. placed_price-rises e (not_above e es) (not_above-rises e es rises) (λ member. (not_above-member e es e member).1 (IsAtMost-refl e)))
 
-inserted-apart : (e : Price) (es : List Price) → AreApart es → AreApart (inserted e es)
+pub inserted-apart : (e : Price) (es : List Price) → AreApart es → AreApart (inserted e es)
 inserted-apart e es apart = by_test (λ b. AreApart (inserted_by b e es)) (some_covers es e) (some_covers-Decides es e) (λ _. apart)
     (λ uncovered f g c d below. both uncovered f g below (placed_price-member e (not_above e es) f c) (placed_price-member e (not_above e es) g d))
   where

@@ -1,0 +1,152 @@
+ghost use Rattle.std.specs.Prelude.{◌≡◌, ◌↔◌, ◌<◌, ◌≤◌, [], length, slice_index_or, IsTrue, false, IfOk, OnOk, OnErr};
+ghost use Rattle.std.specs.List.{position_or_len};
+ghost use Rattle.std.specs.Vec.{vec_len, vec_capacity};
+ghost use Rattle.spectro_spec.specs.LeastPrices.{Covers};
+ghost use Rattle.spectro_game.specs.MinimalElements.{not_above, inserted};
+ghost use Rattle.spectro_energy.specs.Energy.{price_of};
+ghost use Rattle.spectro_antichain.specs.Prices.{prices_of, comes_first};
+
+use spectro_energy::Energy;
+use std::alloc::{AllocError, Global};
+use std::cmp::Ordering;
+use std::marker::Model;
+
+/// Energies of which none is at most another one, in the lexicographic order.
+#[derive(Drop)]
+pub struct Antichain {
+    energies: Vec<Energy>,
+}
+
+impl Model for Antichain {
+    ghost use Rattle.std.specs.Prelude.{List};
+    ghost use Rattle.spectro_spec.specs.Price.{Price};
+    ghost use Rattle.spectro_spec.specs.LeastPrices.{Rises, AreApart};
+    ghost use Rattle.spectro_antichain.specs.Prices.{prices_of};
+
+    ghost Value = { List Price };
+
+    ghost view = { λ a. prices_of a.energies.items };
+
+    ghost invariant = { λ a. Rises (prices_of a.energies.items) × AreApart (prices_of a.energies.items) };
+}
+
+impl Antichain {
+    /// An antichain without members. It takes no memory.
+    pub fn new(alloc: Global) -> Antichain
+        ensures { result ≡ [] }
+    {
+        Antichain {
+            energies: Vec::new(alloc),
+        }
+    }
+
+    /// How many members there are.
+    pub fn len(&self) -> usize
+        ensures { result ≡ length self.now }
+    {
+        self.energies.len()
+    }
+
+    /// Whether there is no member.
+    pub fn is_empty(&self) -> bool
+        ensures { IsTrue result ↔ self.now ≡ [] }
+    {
+        self.energies.is_empty()
+    }
+
+    /// The member at place `k`, in the lexicographic order.
+    pub fn item(&self, k: usize) -> Energy
+        requires { k < length self.now }
+        ensures { price_of result.parts ≡ slice_index_or self.now k (price_of result.parts) }
+    {
+        self.energies[k]
+    }
+
+    /// Whether some member is at most `e`.
+    pub fn covers(&self, e: Energy) -> bool
+        ensures { IsTrue result ↔ Covers self.now (price_of e.parts) }
+    {
+        self.energies.iter().any(|f| f.leq(e))
+    }
+
+    /// Adds `e` unless a member is at most it, and drops the members that `e` is at most.
+    /// Answers whether `e` was added. Memory is taken before anything changes, and only for one that is added.
+    pub fn insert(&mut self, e: Energy) -> Result<bool, AllocError>
+        ensures covered { IfOk result (λ added. added ≡ false ↔ Covers self.old (price_of e.parts)) }
+        ensures list { OnOk result (self.new ≡ inserted (price_of e.parts) self.old) }
+        ensures stays { IfOk result (λ added. added ≡ false → self.new ≡ self.old) }
+        ensures err { OnErr result (self.new ≡ self.old) }
+        ensures cause { OnErr result (¬ Covers self.old (price_of e.parts)) }
+    {
+        if self.covers(e) {
+            return Ok(false);
+        }
+        self.energies.reserve(1)?;
+        drop_above(&mut self.energies, e);
+        let place = place_of(self.energies.as_slice(), e);
+        // there is room for it
+        let _ = self.energies.insert(place, e);
+        Ok(true)
+    }
+}
+
+/// Drops the members that `e` is at most.
+fn drop_above(energies: &mut Vec<Energy>, e: Energy)
+    ensures list { prices_of energies.new.items ≡ not_above (price_of e.parts) (prices_of energies.old.items) }
+    ensures len { vec_len energies.new ≤ vec_len energies.old }
+    ensures capacity { vec_capacity energies.new ≡ vec_capacity energies.old }
+{
+    energies.retain(|f| !e.leq(*f));
+}
+
+/// The place of the first member that `e` comes before, or that of the end.
+fn place_of(energies: &[Energy], e: Energy) -> usize
+    ensures value { result ≡ position_or_len (comes_first e) energies.now }
+    ensures bound { result ≤ length energies.now }
+{
+    energies
+        .iter()
+        .position(|f| e.lex(*f) == Ordering::Less)
+        .unwrap_or(energies.len())
+}
+
+#[cfg(test)]
+mod tests {
+    use super::Antichain;
+    use spectro_energy::Energy;
+    use std::alloc::AllocError;
+
+    const EARLY: Energy = Energy {
+        parts: [2, 2, 1, 1, 0, 0, 2],
+    };
+
+    const LATE: Energy = Energy {
+        parts: [2, 3, 0, 0, 1, 2, 2],
+    };
+
+    const ABOVE_LATE: Energy = Energy {
+        parts: [2, 3, 1, 1, 1, 2, 2],
+    };
+
+    const BELOW_BOTH: Energy = Energy {
+        parts: [2, 2, 0, 0, 0, 0, 0],
+    };
+
+    #[test]
+    fn keeps_the_minimal_energies_in_order(rt: HostRuntime) -> Result<(), AllocError> {
+        let mut minimal = Antichain::new(rt.alloc());
+        assert!(rt; minimal.is_empty());
+        assert!(rt; minimal.insert(LATE)?);
+        assert!(rt; minimal.insert(EARLY)?);
+        assert!(rt; !minimal.insert(ABOVE_LATE)?);
+        assert_eq!(rt; minimal.len(), 2);
+        assert_eq!(rt; minimal.item(0), EARLY);
+        assert_eq!(rt; minimal.item(1), LATE);
+        assert!(rt; minimal.covers(ABOVE_LATE));
+        assert!(rt; !minimal.covers(BELOW_BOTH));
+        assert!(rt; minimal.insert(BELOW_BOTH)?);
+        assert_eq!(rt; minimal.len(), 1);
+        assert_eq!(rt; minimal.item(0), BELOW_BOTH);
+        Ok(())
+    }
+}
