@@ -1,12 +1,17 @@
-ghost use Rattle.std.specs.Prelude.{◌≡◌, ◌↔◌, ◌<◌, ◌≤◌, [], length, slice_index_or, IsTrue, false, IfOk, OnOk, OnErr};
-ghost use Rattle.std.specs.List.{position_or_len};
+ghost use Rattle.std.specs.Prelude.{◌≡◌, ◌↔◌, ◌<◌, ◌≤◌, List, [], ◌++◌, length, map, Contains, slice_index_or, IsTrue, false, IfOk, OnOk, OnErr};
+ghost use Rattle.std.specs.List.{position_or_len, flat_map};
 ghost use Rattle.std.specs.Vec.{vec_len, vec_capacity};
-ghost use Rattle.spectro_spec.specs.LeastPrices.{Covers};
-ghost use Rattle.spectro_game.specs.MinimalElements.{not_above, inserted};
+ghost use Rattle.spectro_spec.specs.Price.{Price};
+ghost use Rattle.spectro_spec.specs.LeastPrices.{Covers, Rises, AreApart};
+ghost use Rattle.spectro_game.specs.MinimalElements.{not_above, inserted, minimal_elements};
+ghost use Rattle.spectro_game.specs.Sup.{sup};
+ghost use Rattle.spectro_game.specs.Update.{inverse};
 ghost use Rattle.spectro_energy.specs.Energy.{price_of};
+ghost use Rattle.spectro_energy.specs.Updates.{update_of, CanRaise};
 ghost use Rattle.spectro_antichain.specs.Prices.{prices_of, comes_first};
 
-use spectro_energy::Energy;
+use spectro_energy::{Energy, Update};
+use spectro_theory::minimal_elements_grow;
 use std::alloc::{AllocError, Global};
 use std::cmp::Ordering;
 use std::marker::Model;
@@ -42,7 +47,9 @@ impl Antichain {
 
     /// How many members there are.
     pub fn len(&self) -> usize
-        ensures { result ≡ length self.now }
+        ensures value { result ≡ length self.now }
+        ensures rises { Rises self.now }
+        ensures apart { AreApart self.now }
     {
         self.energies.len()
     }
@@ -88,6 +95,51 @@ impl Antichain {
         let _ = self.energies.insert(place, e);
         Ok(true)
     }
+
+    /// An antichain of the same members, in memory of its own.
+    pub fn copy(&self) -> Result<Antichain, AllocError>
+        ensures { IfOk result (λ copy. copy ≡ self.now) }
+    {
+        let alloc = *self.energies.allocator();
+        Ok(Antichain {
+            energies: Vec::from_slice(alloc, self.energies.as_slice())?,
+        })
+    }
+
+    /// The minimal ones of the least energies from which the update leaves a member.
+    pub fn pull(&self, update: Update) -> Result<Antichain, AllocError>
+        requires { (e : Price) → Contains self.now e → CanRaise update e }
+        ensures { IfOk result (λ made. made ≡ minimal_elements (map (inverse (update_of update)) self.now)) }
+    {
+        minimal_elements_grow();
+        let mut made = Antichain::new(*self.energies.allocator());
+        for k in 0..self.len() {
+            made.insert(self.item(k).inverse(update))?;
+        }
+        Ok(made)
+    }
+
+    /// The minimal ones of the least upper bounds of a member of each. There are none where either has no member.
+    pub fn meet(&self, other: &Antichain) -> Result<Antichain, AllocError>
+        ensures { IfOk result (λ made. made ≡ minimal_elements (flat_map (λ e. map (sup e) other.now) self.now)) }
+    {
+        let mut made = Antichain::new(*self.energies.allocator());
+        for k in 0..self.len() {
+            insert_sups(&mut made, self.item(k), other)?;
+        }
+        Ok(made)
+    }
+}
+
+/// Inserts the least upper bound of `e` and each of the others.
+fn insert_sups(made: &mut Antichain, e: Energy, others: &Antichain) -> Result<(), AllocError>
+    ensures { OnOk result ((es : List Price) → made.old ≡ minimal_elements es → made.new ≡ minimal_elements (es ++ map (sup (price_of e.parts)) others.now)) }
+{
+    minimal_elements_grow();
+    for k in 0..others.len() {
+        made.insert(e.sup(others.item(k)))?;
+    }
+    Ok(())
 }
 
 /// Drops the members that `e` is at most.
@@ -113,7 +165,7 @@ fn place_of(energies: &[Energy], e: Energy) -> usize
 #[cfg(test)]
 mod tests {
     use super::Antichain;
-    use spectro_energy::Energy;
+    use spectro_energy::{Energy, Update};
     use std::alloc::AllocError;
 
     const EARLY: Energy = Energy {
@@ -147,6 +199,24 @@ mod tests {
         assert!(rt; minimal.insert(BELOW_BOTH)?);
         assert_eq!(rt; minimal.len(), 1);
         assert_eq!(rt; minimal.item(0), BELOW_BOTH);
+        Ok(())
+    }
+
+    #[test]
+    fn makes_minimal_energies_of_each_member(rt: HostRuntime) -> Result<(), AllocError> {
+        let mut both = Antichain::new(rt.alloc());
+        both.insert(LATE)?;
+        both.insert(EARLY)?;
+        let pulled = both.pull(Update::Positive)?;
+        assert_eq!(rt; pulled.len(), 2);
+        assert_eq!(rt; pulled.item(0).parts, [2, 2, 1, 2, 0, 0, 2]);
+        assert_eq!(rt; pulled.item(1).parts, [2, 3, 0, 2, 1, 2, 2]);
+        let met = both.meet(&both.copy()?)?;
+        assert_eq!(rt; met.len(), 2);
+        assert_eq!(rt; met.item(0), EARLY);
+        assert_eq!(rt; met.item(1), LATE);
+        let none = both.meet(&Antichain::new(rt.alloc()))?;
+        assert!(rt; none.is_empty());
         Ok(())
     }
 }
