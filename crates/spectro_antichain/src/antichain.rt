@@ -131,7 +131,7 @@ impl Antichain {
     }
 }
 
-/// Inserts the least upper bound of `e` and each of the others.
+// Inserts the least upper bound of `e` and each of the others.
 fn insert_sups(made: &mut Antichain, e: Energy, others: &Antichain) -> Result<(), AllocError>
     ensures { OnOk result ((es : List Price) → made.old ≡ minimal_elements es → made.new ≡ minimal_elements (es ++ map (sup (price_of e.parts)) others.now)) }
 {
@@ -142,7 +142,7 @@ fn insert_sups(made: &mut Antichain, e: Energy, others: &Antichain) -> Result<()
     Ok(())
 }
 
-/// Drops the members that `e` is at most.
+// Drops the members that `e` is at most.
 fn drop_above(energies: &mut Vec<Energy>, e: Energy)
     ensures list { prices_of energies.new.items ≡ not_above (price_of e.parts) (prices_of energies.old.items) }
     ensures len { vec_len energies.new ≤ vec_len energies.old }
@@ -151,7 +151,7 @@ fn drop_above(energies: &mut Vec<Energy>, e: Energy)
     energies.retain(|f| !e.leq(*f));
 }
 
-/// The place of the first member that `e` comes before, or that of the end.
+// The place of the first member that `e` comes before, or that of the end.
 fn place_of(energies: &[Energy], e: Energy) -> usize
     ensures value { result ≡ position_or_len (comes_first e) energies.now }
     ensures bound { result ≤ length energies.now }
