@@ -1,41 +1,12 @@
 -- The followers, weights and sizes of small pairs.
-use Rattle.std.proofs.Common.{◌≡◌, ◌≤◌, ℕ, ◌+◌, List, [], ◌∷◌, length, Contains, refl, true, false, arith}
-use Rattle.std.specs.Prelude.{codes}
-use Rattle.spectro_spec.specs.System.{System, post}
-use Rattle.spectro_game.specs.Pairs.{Pair, is_before_text, labels_from, followers, IsFollower, IsClosed, IsOneOf, weight, size}
+use Rattle.std.proofs.Common.{◌≡◌, ◌≤◌, ℕ, ◌+◌, List, [], ◌∷◌, length, Contains, refl, arith}
+use Rattle.spectro_spec.specs.System.{post}
+use Rattle.spectro_game.specs.Pairs.{Pair, followers, IsFollower, IsClosed, IsOneOf, weight, size}
 use Rattle.spectro_spec.proofs.Members.{Contains-first, any_member, only_member, Contains-none}
-use Rattle.spectro_spec.proofs.Samples.{a, b, c, step, two_stopped, one_step, late_and_early}
+use Rattle.spectro_spec.proofs.Samples.{two_stopped, one_step, late_and_early, mixed}
 
 abbrev pub pair : ℕ → List ℕ → Pair
 pair p qs = record { state = p; set = qs }
-
-texts-in_order : is_before_text [] a ≡ true
-texts-in_order = refl
-
-texts-beginning_first : is_before_text a (codes "ab") ≡ true
-texts-beginning_first = refl
-
-texts-by_byte : is_before_text (codes "ab") b ≡ true
-texts-by_byte = refl
-
-texts-not_before_itself : is_before_text (codes "ab") (codes "ab") ≡ false
-texts-not_before_itself = refl
-
-texts-not_before_its_beginning : is_before_text (codes "ab") a ≡ false
-texts-not_before_its_beginning = refl
-
--- steps in no order, one of them twice
-abbrev mixed : System
-mixed = record { states = 4; initial = 0; steps = step 0 b 3 ∷ step 0 (codes "ab") 0 ∷ step 1 c 2 ∷ step 0 b 1 ∷ step 0 a 2 ∷ step 0 b 3 ∷ step 2 b 2 ∷ step 1 b 0 ∷ [] }
-
-labels_from-mixed : labels_from mixed.steps 0 ≡ a ∷ codes "ab" ∷ b ∷ []
-labels_from-mixed = refl
-
-labels_from-other_state : labels_from mixed.steps 1 ≡ b ∷ c ∷ []
-labels_from-other_state = refl
-
-labels_from-stopped : labels_from mixed.steps 3 ≡ []
-labels_from-stopped = refl
 
 -- a label that p has and the set has not leads to the empty set; a label that the set alone has leads nowhere
 followers-mixed : followers mixed (pair 0 (1 ∷ 2 ∷ [])) ≡

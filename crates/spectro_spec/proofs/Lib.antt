@@ -2,9 +2,12 @@ pub mod Samples
 pub mod Members
 pub mod Membership
 pub mod Rising
+pub mod Successors
+pub mod LabelOrder
 pub mod Pricing
 pub mod FirstSmaller
 pub mod SystemExamples
+pub mod LabelOrderExamples
 pub mod TruthExamples
 pub mod PriceExamples
 pub mod OrderExamples

@@ -1,4 +1,5 @@
 pub mod System
+pub mod LabelOrder
 pub mod Formula
 pub mod Weighing
 pub mod Price

@@ -11,7 +11,7 @@ use Rattle.spectro_spec.proofs.Members.{only_member}
 use Rattle.spectro_game.specs.Update.{observe}
 use Rattle.spectro_game.specs.BackwardStep.{Listing, ListsAtMost, AffordsClause, AffordsSplit, CoversItsStep}
 use Rattle.spectro_theory.proofs.Divided.{IsDivided-all_right, divided_at, Contains-right, divided_by}
-use Rattle.spectro_theory.proofs.Successors.{Contains-post}
+use Rattle.spectro_spec.proofs.Successors.{Contains-post}
 use Rattle.spectro_theory.proofs.Closures.{IsClosedByCases}
 use Rattle.spectro_theory.proofs.PriceOrder.{inverse-monotone}
 use Rattle.spectro_theory.specs.Splits.{HasPlus, HasMinus}

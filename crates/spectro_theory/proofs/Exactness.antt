@@ -17,7 +17,7 @@ use Rattle.spectro_theory.proofs.Conjunctions.{cost, cost-below, second_greatest
 use Rattle.spectro_theory.proofs.Satisfaction.{plus-true, minus-false}
 use Rattle.spectro_theory.proofs.Divided.{Contains-divided_cases}
 use Rattle.spectro_theory.proofs.PriceOrder.{IsAtMost-trans, IsAtMost-antisym}
-use Rattle.spectro_theory.proofs.Successors.{post-has}
+use Rattle.spectro_spec.proofs.Successors.{post-has}
 
 not_empty : (left : List ℕ) (q : ℕ) → Contains left q → left ≢ []
 not_empty left q member none = Contains-none q (subst (λ qs. Contains qs q) none member)

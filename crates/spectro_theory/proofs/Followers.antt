@@ -1,66 +1,21 @@
 -- The three ways in which a pair follows another: after a step from its state, with a subset that is not empty, and as
 -- another member against its state.
-use Rattle.std.proofs.Common.{◌≡◌, ◌≢◌, ◌∙◌, ◌⊎◌, inl, inr, ℕ, ◌==◌, List, [], ◌∷◌, ◌++◌, drop, refl, sym, ap, subst, Contains, Bool, true, false, cond, not}
+use Rattle.std.proofs.Common.{◌≡◌, ◌≢◌, ◌∙◌, ◌⊎◌, inl, inr, ℕ, ◌==◌, List, [], ◌∷◌, ◌++◌, drop, refl, sym, ap, subst, Contains, Bool, true, false, not}
 use Rattle.std.specs.Prelude.{◌↔◌}
-use Rattle.std.specs.Str.{bytes_eq}
 use Rattle.std.proofs.lemmas.Bool.{eqb-false, ne_eqb}
 use Rattle.std.proofs.lemmas.List.Elements.{Contains-append_left, Contains-append_right, Contains-append_cases}
-use Rattle.std.proofs.lemmas.Slice.Eq.{bytes_eq-Decides}
-use Rattle.spectro_spec.specs.System.{Label, Step, System, HasStep, post}
+use Rattle.spectro_spec.specs.System.{Label, System, HasStep, post}
+use Rattle.spectro_spec.specs.LabelOrder.{labels_from}
 use Rattle.spectro_spec.proofs.Members.{Contains-first, Contains-later, Contains-cases, Contains-none}
 use Rattle.spectro_game.specs.Divisions.{IsDivided, Division, divisions}
-use Rattle.spectro_game.specs.Pairs.{Pair, is_before_text, placed_label, labels_from, observed_under, observed, subsets, swaps, followers, IsFollower, IsClosed}
+use Rattle.spectro_game.specs.Pairs.{Pair, observed_under, observed, subsets, swaps, followers, IsFollower, IsClosed}
 use Rattle.spectro_theory.specs.LawsOfPairs.{FollowsByCase}
-use Rattle.spectro_spec.proofs.Membership.{Contains-first_is, Contains-map, Contains-map_cases, Contains-flat_map, Contains-flat_map_cases, Contains-filter, Contains-filter_cases}
-use Rattle.spectro_theory.proofs.Successors.{Contains-post, post-has}
+use Rattle.spectro_spec.proofs.Membership.{Contains-map, Contains-map_cases, Contains-flat_map, Contains-flat_map_cases, Contains-filter, Contains-filter_cases}
+use Rattle.spectro_spec.proofs.LabelOrder.{Contains-labels_from}
+use Rattle.spectro_spec.proofs.Successors.{Contains-post, post-has}
 use Rattle.spectro_theory.proofs.DivisionLists.{divisions-Divides, later_divisions-TakesSome, Contains-later_divisions}
 use Rattle.spectro_theory.proofs.Closures.{IsClosedByCases}
 
--- ---- labels of the steps from a state
-Contains-placed_label_cases : (label : Label) (others : List Label) (x : Label) → Contains (placed_label label others) x → (label ≡ x) ⊎ Contains others x
-Contains-placed_label_cases label [] x member = Contains-cases label [] x member
-Contains-placed_label_cases label (other ∷ others) x member = go (is_before_text label other) (bytes_eq label other) (Contains-placed_label_cases label others x) member
-  where
-    go : (before same : Bool) → (Contains (placed_label label others) x → (label ≡ x) ⊎ Contains others x)
-        → Contains (cond before (label ∷ other ∷ others) (cond same (other ∷ others) (other ∷ placed_label label others))) x → (label ≡ x) ⊎ Contains (other ∷ others) x
-    go true same rest h = Contains-cases label (other ∷ others) x h
-    go false true rest h = inr h
-    go false false rest h = elim (Contains-cases other (placed_label label others) x h) [
-      | inl e ↦ inr (Contains-first_is other others x e)
-      | inr later ↦ elim (rest later) [ inl e ↦ inl e | inr g ↦ inr (Contains-later other others x g) ]
-    ]
-
-Contains-placed_label : (label : Label) (others : List Label) (x : Label) → (label ≡ x) ⊎ Contains others x → Contains (placed_label label others) x
-Contains-placed_label label [] x (inl e) = Contains-first_is label [] x e
-Contains-placed_label label [] x (inr h) = absurd (Contains-none x h)
-Contains-placed_label label (other ∷ others) x h = go (is_before_text label other) (bytes_eq label other) refl (Contains-placed_label label others x) h
-  where
-    go : (before same : Bool) → bytes_eq label other ≡ same → ((label ≡ x) ⊎ Contains others x → Contains (placed_label label others) x) → (label ≡ x) ⊎ Contains (other ∷ others) x
-        → Contains (cond before (label ∷ other ∷ others) (cond same (other ∷ others) (other ∷ placed_label label others))) x
-    go true same is rest (inl e) = Contains-first_is label (other ∷ others) x e
-    go true same is rest (inr g) = Contains-later label (other ∷ others) x g
-    go false true is rest (inl e) = Contains-first_is other others x (sym ((bytes_eq-Decides label other).0 is) ∙ e)
-    go false true is rest (inr g) = g
-    go false false is rest (inl e) = Contains-later other (placed_label label others) x (rest (inl e))
-    go false false is rest (inr g) = elim (Contains-cases other others x g) [
-      | inl e ↦ Contains-first_is other (placed_label label others) x e
-      | inr later ↦ Contains-later other (placed_label label others) x (rest (inr later))
-    ]
-
-Contains-labels_from : (steps : List Step) (p : ℕ) (label : Label) (t : ℕ) → Contains steps (record { source = p; label = label; target = t }) → Contains (labels_from steps p) label
-Contains-labels_from [] p label t member = absurd (Contains-none _ member)
-Contains-labels_from (step ∷ steps) p label t member =
-    go (step.source == p) refl (Contains-labels_from steps p label t) (Contains-cases step steps (record { source = p; label = label; target = t }) member)
-  where
-    go : (here : Bool) → (step.source == p) ≡ here → (Contains steps (record { source = p; label = label; target = t }) → Contains (labels_from steps p) label)
-        → (step ≡ record { source = p; label = label; target = t }) ⊎ Contains steps (record { source = p; label = label; target = t })
-        → Contains (cond here (placed_label step.label (labels_from steps p)) (labels_from steps p)) label
-    go true is rest (inl e) = Contains-placed_label step.label (labels_from steps p) label (inl (ap (λ (s : Step). s.label) e))
-    go true is rest (inr h) = Contains-placed_label step.label (labels_from steps p) label (inr (rest h))
-    go false is rest (inl e) = absurd (eqb-false step.source p is (ap (λ (s : Step). s.source) e))
-    go false is rest (inr h) = rest h
-
--- ---- the followers
 pub follows_observed : (system : System) (p : ℕ) (qs : List ℕ) (label : Label) (t : ℕ) → HasStep system p label t → IsFollower system p qs t (post system qs label)
 unfolding followers
 follows_observed system p qs label t step =

@@ -12,7 +12,7 @@ use Rattle.spectro_game.specs.Divisions.{IsDivided}
 use Rattle.spectro_game.specs.BackwardStep.{AttackerWins, Listing, AffordsClause, Affords}
 use Rattle.spectro_spec.proofs.Membership.{Contains-first_is}
 use Rattle.spectro_theory.proofs.Divided.{Contains-divided_cases}
-use Rattle.spectro_theory.proofs.Successors.{post-has}
+use Rattle.spectro_spec.proofs.Successors.{post-has}
 use Rattle.spectro_theory.proofs.Conjunctions.{cost, depths, second_greatest-le-greatest}
 
 module _ (weighing : Weighing) (system : System) where

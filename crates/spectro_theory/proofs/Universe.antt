@@ -16,7 +16,7 @@ use Rattle.spectro_theory.proofs.Satisfaction.{decide_number}
 use Rattle.spectro_theory.proofs.Divided.{IsDivided-all_right, divided_at, Contains-left}
 use Rattle.spectro_theory.proofs.DivisionLists.{divisions-Divides, Contains-divisions}
 use Rattle.spectro_spec.proofs.Rising.{Contains-rising, Contains-rising_cases, Ascends, rising-ascends, ascends-below, above_first}
-use Rattle.spectro_theory.proofs.Successors.{Contains-post}
+use Rattle.spectro_spec.proofs.Successors.{Contains-post}
 use Rattle.spectro_theory.proofs.Followers.{IsFollower-iff}
 use Rattle.spectro_theory.proofs.Solved.{generation-late}
 
