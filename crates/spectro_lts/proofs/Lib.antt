@@ -1,6 +1,8 @@
 pub mod LabelLaws
 pub mod Numbering
 pub mod Joining
+pub mod Indexes
+pub mod Ranking
 pub mod TablesCodes
 pub mod TablesSlices
 pub mod TablesAnswers

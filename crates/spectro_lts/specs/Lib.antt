@@ -1,4 +1,6 @@
 pub mod Labels
 pub mod Numbered
 pub mod Tables
+pub mod Ranks
+pub mod Indexed
 pub mod Named

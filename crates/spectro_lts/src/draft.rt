@@ -5,6 +5,8 @@ ghost use Rattle.indexmap.specs.IndexSet.{insert_key};
 ghost use Rattle.spectro_lts.specs.Labels.{labels_of, IsLabel};
 ghost use Rattle.spectro_lts.specs.Numbered.{GivesNumber};
 
+use crate::ranks::ranks;
+use crate::table::Table;
 use crate::{Lts, Step};
 use indexmap::IndexSet;
 use std::alloc::{AllocError, Global};
@@ -102,11 +104,15 @@ impl Draft {
     pub fn finish(self) -> Result<Lts, AllocError>
         ensures { IfOk result (λ lts. lts ≡ self) }
     {
+        let alloc = *self.steps.allocator();
+        let ranks = ranks(alloc, &self.labels)?;
+        let table = Table::build(alloc, self.states, &ranks, &self.steps)?;
         Ok(Lts {
             states: self.states,
             initial: self.initial,
             labels: self.labels,
             steps: self.steps,
+            table,
         })
     }
 }

@@ -5,6 +5,7 @@ mod draft;
 mod join;
 mod lts;
 mod named;
+mod ranks;
 mod step;
 mod table;
 
@@ -12,4 +13,3 @@ pub use draft::Draft;
 pub use lts::Lts;
 pub use named::{labels_are_by_name, successors_are_by_name};
 pub use step::Step;
-pub use table::Table;

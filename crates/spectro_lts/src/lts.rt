@@ -4,6 +4,7 @@ ghost use Rattle.spectro_spec.specs.System.{IsWhole};
 ghost use Rattle.spectro_lts.specs.Labels.{labels_of, IsLabel, IsStepAt};
 
 use crate::Step;
+use crate::table::Table;
 use indexmap::IndexSet;
 use std::marker::Model;
 
@@ -14,17 +15,19 @@ pub struct Lts {
     pub(crate) initial: u32,
     pub(crate) labels: IndexSet<String>,
     pub(crate) steps: Vec<Step>,
+    pub(crate) table: Table,
 }
 
 impl Model for Lts {
     ghost use Rattle.spectro_spec.specs.System.{System};
-    ghost use Rattle.spectro_lts.specs.Numbered.{steps_of, IsNumbered};
+    ghost use Rattle.spectro_lts.specs.Numbered.{steps_of};
+    ghost use Rattle.spectro_lts.specs.Indexed.{IsIndexed};
 
     ghost Value = { System };
 
     ghost view = { λ l. record { states = l.states; initial = l.initial; steps = steps_of l.labels.keys l.steps.items } };
 
-    ghost invariant = { λ l. IsNumbered l.states l.initial l.labels.keys l.steps.items };
+    ghost invariant = { λ l. IsIndexed l.states l.initial l.labels.keys l.steps.items l.table };
 }
 
 impl Lts {

@@ -61,6 +61,15 @@ before-neither text other one two =
     go Greater Equal e is_not none = e
     go Greater Greater e is_not none = absurd (true≢false (ap is_lt (sym e)))
 
+-- what is not after a text that comes before another comes before it too
+pub before-lower : (first later text : List ℕ) → is_before_text later first ≡ false → is_before_text later text ≡ true → is_before_text first text ≡ true
+before-lower first later text up before = go (is_before_text first text) (is_before_text text first) refl refl
+  where
+    go : (one two : Bool) → is_before_text first text ≡ one → is_before_text text first ≡ two → one ≡ true
+    go true two is is_two = refl
+    go false true is is_two = absurd (true≢false (sym (before-chain later text first before is_two) ∙ up))
+    go false false is is_two = absurd (true≢false (sym before ∙ subst (λ x. is_before_text later x ≡ false) (before-neither first text is is_two) up))
+
 -- ---- what the labels of a state are
 Contains-placed_label_cases : (label : Label) (others : List Label) (x : Label) → Contains (placed_label label others) x → (label ≡ x) ⊎ Contains others x
 Contains-placed_label_cases label [] x member = Contains-cases label [] x member
