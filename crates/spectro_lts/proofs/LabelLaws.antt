@@ -179,7 +179,7 @@ apart labels label i j distinct at_i at_j less =
     let same = bytes_eq-same (get_or labels i []) (get_or labels j []) (get_or_from_slice_get labels i label [] at_i ∙ sym (get_or_from_slice_get labels j label [] at_j)) in
     cc
 
-one_number : (labels : List Label) (label : Label) (i j : ℕ) → IsDistinct bytes_eq labels → slice_get labels i ≡ Some label → slice_get labels j ≡ Some label → i ≡ j
+pub one_number : (labels : List Label) (label : Label) (i j : ℕ) → IsDistinct bytes_eq labels → slice_get labels i ≡ Some label → slice_get labels j ≡ Some label → i ≡ j
 one_number labels label i j distinct at_i at_j = by (cases_lt i j) (cases_lt j i)
   where
     by : (i < j) ⊎ (j ≤ i) → (j < i) ⊎ (i ≤ j) → i ≡ j
@@ -191,6 +191,9 @@ no_label : IsDistinct bytes_eq []
 unfolding IsDistinct
 no_label = tt
 
+pub labels_of-distinct : (steps : List Step) → IsDistinct bytes_eq (labels_of steps)
+labels_of-distinct steps = IsDistinct-insert_all [] (map (λ step. step.label) steps) no_label
+
 -- labels of steps are the same exactly where their numbers are
 pub label_from_number : (steps : List Step) (label other : Label) (label_no number : ℕ) → position (bytes_eq label) (labels_of steps) ≡ Some label_no → slice_get (labels_of steps) number ≡ Some other → number ≡ label_no → other ≡ label
 label_from_number steps label other label_no number known at same =
@@ -201,5 +204,4 @@ label_from_number steps label other label_no number known at same =
 pub number_from_label : (steps : List Step) (label other : Label) (label_no number : ℕ) → position (bytes_eq label) (labels_of steps) ≡ Some label_no → slice_get (labels_of steps) number ≡ Some other → other ≡ label → number ≡ label_no
 number_from_label steps label other label_no number known at same =
     let found = found_label (labels_of steps) label label_no known in
-    let distinct = IsDistinct-insert_all [] (map (λ step. step.label) steps) no_label in
-    one_number (labels_of steps) label number label_no distinct (at ∙ ap Some same) found
+    one_number (labels_of steps) label number label_no (labels_of-distinct steps) (at ∙ ap Some same) found

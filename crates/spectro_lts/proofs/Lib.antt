@@ -7,3 +7,5 @@ pub mod TablesCodes
 pub mod TablesSlices
 pub mod TablesAnswers
 pub mod TablesNames
+pub mod Sorting
+pub mod Indexing

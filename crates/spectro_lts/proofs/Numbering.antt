@@ -121,7 +121,7 @@ whole states first labels steps numbered = record {
   targets = All-map (λ step. step.target < states) (labelled labels) steps numbered.targets;
 }
 
-label_at-numbered : (labels : List (String Global)) (label_no : ℕ) → label_no < length labels → slice_get (map string_bytes labels) label_no ≡ Some (label_at labels label_no)
+pub label_at-numbered : (labels : List (String Global)) (label_no : ℕ) → label_no < length labels → slice_get (map string_bytes labels) label_no ≡ Some (label_at labels label_no)
 label_at-numbered [] label_no within = absurd (omega arith)
 label_at-numbered (label ∷ labels) zero within = refl
 label_at-numbered (label ∷ labels) (suc label_no) within = label_at-numbered labels label_no (omega arith)

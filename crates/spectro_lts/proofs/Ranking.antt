@@ -1,6 +1,6 @@
 -- How many labels come before one in the order of bytes is its rank.
 use Rattle.std.proofs.Common.{◌≡◌, ◌∙◌, ◌⊎◌, inl, inr, ℕ, zero, suc, ◌+◌, ◌<◌, ◌≤◌, List, [], ◌∷◌, ◌++◌, length, map, refl, sym, ap, subst, arith, append-nil, Contains, Bool, true, false, Bor, slice_index, slice_index_or}
-use Rattle.std.specs.Prelude.{String, string_bytes}
+use Rattle.std.specs.Prelude.{String, string_bytes, Some}
 use Rattle.std.specs.List.{IsDistinct, AllByRecursion}
 use Rattle.std.specs.List.Sorted.{IsPermutation, IsSortedBy, IsPartitionedBy, IsPartitionPoint}
 use Rattle.std.specs.Ordering.{is_lt, nat_cmp}
@@ -15,8 +15,7 @@ use Rattle.std.proofs.lemmas.List.{length-map, get_or-map}
 use Rattle.std.proofs.lemmas.List.Elements.{Contains-get_or, at_from_Contains}
 use Rattle.std.proofs.lemmas.List.MinMax.{ranks_by}
 use Rattle.std.proofs.lemmas.List.Sorted.{sorted_far, length_permutation, Contains-permutation, IsPermutation-map}
-use Rattle.std.proofs.lemmas.Map.Keys.{apart_from_distinct}
-use Rattle.std.proofs.lemmas.Slice.Eq.{bytes_eq-Decides}
+use Rattle.std.proofs.lemmas.Option.{slice_get-get_or}
 use Rattle.spectro_spec.specs.System.{Label}
 use Rattle.spectro_spec.specs.LabelOrder.{is_before_text}
 use Rattle.spectro_spec.proofs.LabelOrder.{before-is, before-lower, before-neither, before-not_itself}
@@ -24,6 +23,7 @@ use Rattle.spectro_lts.specs.Numbered.{label_at}
 use Rattle.spectro_lts.specs.Ranks.{texts_of, AreSorted, IsRank, AreRanks}
 use Rattle.spectro_lts.specs.Tables.{IsRanking}
 use Rattle.spectro_lts.proofs.Indexes.{at_each_more}
+use Rattle.spectro_lts.proofs.LabelLaws.{one_number}
 
 abbrev pub text_of : Bor (String Global) → Label
 text_of label = string_bytes label.now
@@ -129,17 +129,9 @@ module _ (texts sorted : List Label) (ranks : List ℕ) (distinct : IsDistinct b
           let not_before = (each other (omega (arith, long))).above k past inside in
           absurd (true≢false (sym before ∙ subst (λ text. is_before_text text (slice_index_or texts other []) ≡ false) same not_before))
 
-  apart_texts : (label_no other : ℕ) → label_no < other → other < length texts → slice_index_or texts label_no [] ≡ slice_index_or texts other [] → ⊥
-  apart_texts label_no other less within same =
-      true≢false (sym ((bytes_eq-Decides (slice_index_or texts label_no []) (slice_index_or texts other [])).1 same) ∙ apart_from_distinct bytes_eq texts label_no other [] distinct less within)
-
   one_text : (label_no other : ℕ) → label_no < length texts → other < length texts → slice_index_or texts label_no [] ≡ slice_index_or texts other [] → label_no ≡ other
-  one_text label_no other within other_within same = go (cases_lt label_no other) (cases_lt other label_no)
-    where
-      go : (label_no < other) ⊎ (other ≤ label_no) → (other < label_no) ⊎ (label_no ≤ other) → label_no ≡ other
-      go (inl less) more = absurd (apart_texts label_no other less other_within same)
-      go (inr least) (inl less) = absurd (apart_texts other label_no less within (sym same))
-      go (inr least) (inr most) = omega arith
+  one_text label_no other within other_within same =
+      one_number texts (slice_index_or texts label_no []) label_no other distinct (slice_get-get_or texts label_no [] within) (slice_get-get_or texts other [] other_within ∙ ap Some (sym same))
 
   below : (label_no : ℕ) → label_no < length texts → slice_index ranks label_no < length texts
   below label_no within = let at = stands label_no within in omega (arith, at.1, at.3, are_sorted.long)

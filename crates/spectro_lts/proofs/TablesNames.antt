@@ -8,8 +8,15 @@ use Rattle.std.proofs.lemmas.List.Elements.{All-head, All-tail}
 use Rattle.spectro_spec.specs.System.{rising, post}
 use Rattle.spectro_spec.specs.System as spec
 use Rattle.spectro_lts.specs.declared.step.Step.{Step}
-use Rattle.spectro_lts.specs.Tables.{successors_of, labels_from}
-use Rattle.spectro_lts.specs.Named.{named, IsNaming}
+use Rattle.spectro_lts.specs.Tables.{successors_of, label_nos_from}
+
+-- the step with the label of its number
+abbrev pub named : (ℕ → spec.Label) → Step → spec.Step
+named name step = record { source = step.from; label = name step.label; target = step.to }
+
+-- numbers below the count have labels of their own
+abbrev pub IsNaming : (ℕ → spec.Label) → ℕ → Type 0
+IsNaming name count = (first second : ℕ) → first < count → second < count → name first ≡ name second → first ≡ second
 
 same_tests : (a b : Bool) → (a ≡ true → b ≡ true) → (b ≡ true → a ≡ true) → a ≡ b
 same_tests true true there back = refl
@@ -66,13 +73,13 @@ unfolding post
 successors_of-post name count steps states initial s label_no naming below all = ap rising (targets_by_label name count s label_no naming below steps all)
 
 -- the labels of a state by number are those of its steps in the system
-pub labels_from-named : (name : ℕ → spec.Label) (steps : List Step) (s : ℕ)
-    → map name (labels_from steps s) ≡ map (λ (step : spec.Step). step.label) (filter (λ (step : spec.Step). step.source == s) (map (named name) steps))
-labels_from-named name [] s = refl
-labels_from-named name (x ∷ steps) s = go (x.from == s) (labels_from-named name steps s)
+pub label_nos_from-named : (name : ℕ → spec.Label) (steps : List Step) (s : ℕ)
+    → map name (label_nos_from steps s) ≡ map (λ (step : spec.Step). step.label) (filter (λ (step : spec.Step). step.source == s) (map (named name) steps))
+label_nos_from-named name [] s = refl
+label_nos_from-named name (x ∷ steps) s = go (x.from == s) (label_nos_from-named name steps s)
   where
     go : (kept : Bool)
-        → map name (labels_from steps s) ≡ map (λ (step : spec.Step). step.label) (filter (λ (step : spec.Step). step.source == s) (map (named name) steps))
+        → map name (label_nos_from steps s) ≡ map (λ (step : spec.Step). step.label) (filter (λ (step : spec.Step). step.source == s) (map (named name) steps))
         → map name (map (λ (step : Step). step.label) (cond kept (x ∷ filter (λ (step : Step). step.from == s) steps) (filter (λ (step : Step). step.from == s) steps)))
         ≡ map (λ (step : spec.Step). step.label) (cond kept (named name x ∷ filter (λ (step : spec.Step). step.source == s) (map (named name) steps)) (filter (λ (step : spec.Step). step.source == s) (map (named name) steps)))
     go true rest = λ i. name x.label ∷ rest i

@@ -1,5 +1,5 @@
 -- The labels of steps by number.
-use Rattle.std.specs.Prelude.{◌≡◌, ◌≤◌, ℕ, List, [], length, map, slice_get, Some, Contains}
+use Rattle.std.specs.Prelude.{◌≡◌, ◌≤◌, ℕ, List, [], length, map, slice_get, slice_index_or, Some, Contains}
 use Rattle.std.specs.Str.{bytes_eq}
 use Rattle.indexmap.specs.IndexSet.{insert_all}
 use Rattle.spectro_spec.specs.System.{Label, Step}
@@ -7,6 +7,10 @@ use Rattle.spectro_spec.specs.System.{Label, Step}
 -- the labels of the steps, each once, in the order in which they first stand
 abbrev pub labels_of : List Step → List Label
 labels_of steps = insert_all bytes_eq [] (map (λ step. step.label) steps)
+
+-- the label of the number; empty where there is none
+abbrev pub label_of : List Step → ℕ → Label
+label_of steps label_no = slice_index_or (labels_of steps) label_no []
 
 -- a label has at most 8192 bytes, and none of them ends a line
 pub record IsLabel (text : Label) : Type 0 where

@@ -3,4 +3,3 @@ pub mod Numbered
 pub mod Tables
 pub mod Ranks
 pub mod Indexed
-pub mod Named

@@ -4,12 +4,13 @@
 mod draft;
 mod join;
 mod lts;
-mod named;
 mod ranks;
+mod state_set;
 mod step;
+mod successors;
 mod table;
 
 pub use draft::Draft;
 pub use lts::Lts;
-pub use named::{labels_are_by_name, successors_are_by_name};
+pub use state_set::StateSet;
 pub use step::Step;

@@ -1,13 +1,15 @@
 -- The successors of a set are where the steps under the label lead from its members, and they rise.
-use Rattle.std.proofs.Common.{ℕ, ◌≡◌, ◌==◌, ◌&&◌, List, filter, refl, sym, subst, Contains, Bool}
+use Rattle.std.proofs.Common.{ℕ, ◌≡◌, ◌==◌, ◌&&◌, ◌<◌, List, [], ◌∷◌, filter, flat_map, refl, sym, subst, Contains, Bool, All}
 use Rattle.std.specs.List.{list_any}
 use Rattle.std.specs.List.Sorted.{IsStrictlyIncreasing}
 use Rattle.std.specs.Str.{bytes_eq}
 use Rattle.std.proofs.lemmas.Bool.{eqb-true, eq-eqb, and_parts, and_from}
 use Rattle.std.proofs.lemmas.Slice.Eq.{bytes_eq-Decides}
-use Rattle.spectro_spec.specs.System.{Label, Step, System, HasStep, targets_of, post}
-use Rattle.spectro_spec.proofs.Membership.{Contains-map, Contains-map_cases, Contains-filter, Contains-filter_cases, list_any-has, list_any-cases}
-use Rattle.spectro_spec.proofs.Rising.{Contains-rising, Contains-rising_cases, IsStrictlyIncreasing-rising}
+use Rattle.std.proofs.lemmas.List.Elements.{All-contains, Contains-get_or}
+use Rattle.spectro_spec.specs.System.{Label, Step, System, IsWhole, HasStep, rising, targets_of, post}
+use Rattle.spectro_spec.proofs.Membership.{Contains-map, Contains-map_cases, Contains-flat_map, Contains-flat_map_cases, Contains-filter, Contains-filter_cases, list_any-has, list_any-cases}
+use Rattle.spectro_spec.proofs.Rising.{Contains-rising, Contains-rising_cases, IsStrictlyIncreasing-rising, rising_is}
+use Rattle.spectro_spec.proofs.Members.{Contains-first, only_member}
 
 -- whether the step leads under the label from one of the set
 abbrev leads_from : List ℕ → Label → Step → Bool
@@ -47,3 +49,21 @@ post-has system qs label q t member step =
 pub post-rises : (system : System) (qs : List ℕ) (label : Label) → IsStrictlyIncreasing (post system qs label)
 unfolding post
 post-rises system qs label = IsStrictlyIncreasing-rising (targets_of system.steps qs label)
+
+-- the successors of each member, put in rising order, are those of the set
+pub post-by_member : (system : System) (qs : List ℕ) (label : Label) → rising (flat_map (λ q. post system (q ∷ []) label) qs) ≡ post system qs label
+post-by_member system qs label = sym (rising_is (post system qs label) (flat_map (λ q. post system (q ∷ []) label) qs) (post-rises system qs label)
+    (λ t member.
+    let from = Contains-post system qs label t member in
+    Contains-flat_map (λ q. post system (q ∷ []) label) qs from.0 t from.1 (post-has system (from.0 ∷ []) label from.0 t (Contains-first from.0 []) from.2))
+    (λ t member.
+    let found = Contains-flat_map_cases (λ q. post system (q ∷ []) label) qs t member in
+    let from = Contains-post system (found.0 ∷ []) label t found.2 in
+    let step : HasStep system found.0 label t = only_member (λ q. HasStep system q label t → HasStep system found.0 label t) found.0 from.0 (λ h. h) from.1 from.2 in
+    post-has system qs label found.0 t found.1 step))
+
+-- they are states of the system
+pub post-below : (system : System) (qs : List ℕ) (label : Label) → IsWhole system → All (λ t. t < system.states) (post system qs label)
+post-below system qs label whole k default within =
+    let from = Contains-post system qs label _ (Contains-get_or (post system qs label) k default within) in
+    All-contains (λ (step : Step). step.target < system.states) system.steps _ whole.targets from.2
