@@ -1,5 +1,5 @@
 -- What the table of a system answers is so in the system.
-use Rattle.std.proofs.Common.{◌≡◌, ◌∙◌, ℕ, ◌<◌, ◌+◌, List, [], ◌∷◌, length, map, All, Contains, refl, sym, ap, subst, arith, slice_index, slice_index_or, true}
+use Rattle.std.proofs.Common.{◌≡◌, ◌∙◌, ℕ, ◌<◌, List, [], ◌∷◌, length, map, All, Contains, sym, ap, subst, arith, slice_index, slice_index_or, true}
 use Rattle.std.specs.Prelude.{String, string_bytes, Some}
 use Rattle.std.specs.Str.{bytes_eq}
 use Rattle.std.specs.List.{IsDistinct}
@@ -7,15 +7,14 @@ use Rattle.std.specs.declared.alloc.Global.{Global}
 use Rattle.std.proofs.lemmas.List.{length-map}
 use Rattle.std.proofs.lemmas.List.Elements.{Contains-get_or}
 use Rattle.spectro_spec.specs.System.{Label, System, post}
-use Rattle.spectro_spec.specs.System as spec
 use Rattle.spectro_spec.specs.LabelOrder.{is_before_text, labels_from}
-use Rattle.spectro_spec.proofs.LabelOrder.{labels_by_step, AreInOrder, labels_from_is}
+use Rattle.spectro_spec.proofs.LabelOrder.{AreInOrder, labels_from_is}
 use Rattle.spectro_spec.proofs.Members.{Contains-first, Contains-later}
 use Rattle.spectro_spec.proofs.Membership.{Contains-map, Contains-map_cases}
 use Rattle.spectro_spec.proofs.Rising.{Ascends, ascends-from_increasing}
 use Rattle.spectro_lts.specs.Indexed.{IsIndexed}
 use Rattle.spectro_lts.specs.Labels.{labels_of, label_of}
-use Rattle.spectro_lts.specs.Numbered.{label_at, steps_of, IsNumbered}
+use Rattle.spectro_lts.specs.Numbered.{label_at, steps_of}
 use Rattle.spectro_lts.specs.Tables.{successors_of, label_nos_from, AreLabelsFrom, HasState}
 use Rattle.spectro_lts.specs.declared.step.Step.{Step}
 use Rattle.spectro_lts.specs.declared.table.Table.{Table}

@@ -2,7 +2,7 @@ use Rattle.std.proofs.Common.{◌≡◌, ◌∙◌, ◌+◌, ◌<◌, ◌++◌, 
 use Rattle.std.specs.List.Sorted.{IsStrictlyIncreasing}
 use Rattle.std.proofs.lemmas.Grind.{flat_map-append}
 use Rattle.std.proofs.lemmas.List.{take_more, take_all}
-use Rattle.spectro_spec.specs.System.{System, IsWhole, rising, post}
+use Rattle.spectro_spec.specs.System.{IsWhole, rising, post}
 use Rattle.spectro_spec.proofs.Successors.{post-by_member, post-rises, post-below}
 use Rattle.spectro_lts.specs.Labels.{label_of}
 use Rattle.spectro_lts.proofs.Numbering.{whole}
