@@ -15,7 +15,7 @@ use Rattle.spectro_spec.proofs.Rising.{Ascends, ascends-from_increasing}
 use Rattle.spectro_lts.specs.Indexed.{IsIndexed}
 use Rattle.spectro_lts.specs.Labels.{labels_of, label_of}
 use Rattle.spectro_lts.specs.Numbered.{label_at, steps_of}
-use Rattle.spectro_lts.specs.Tables.{successors_of, label_nos_from, AreLabelsFrom, HasState}
+use Rattle.spectro_lts.specs.Tables.{successors_of, label_nos_from, AreLabelsFrom}
 use Rattle.spectro_lts.specs.declared.step.Step.{Step}
 use Rattle.spectro_lts.specs.declared.table.Table.{Table}
 use Rattle.spectro_lts.proofs.LabelLaws.{one_number, labels_of-distinct}
@@ -35,10 +35,10 @@ names_in_order name rank count rise (label_no ∷ other ∷ rest) within up = (
   names_in_order name rank count rise (other ∷ rest) (λ k member. within k (Contains-later label_no (other ∷ rest) k member)) up.1,
 )
 
-module _ (states first : ℕ) (labels : List (String Global)) (steps : List Step) (table : Table) (indexed : IsIndexed states first labels steps table) where
-  abbrev system : System
-  system = record { states = states; initial = first; steps = steps_of labels steps }
+abbrev pub system_of : ℕ → ℕ → List (String Global) → List Step → System
+system_of states first labels steps = record { states = states; initial = first; steps = steps_of labels steps }
 
+module _ (states first : ℕ) (labels : List (String Global)) (steps : List Step) (table : Table) (indexed : IsIndexed states first labels steps table) where
   pub count_of_labels : length labels ≡ length (labels_of (steps_of labels steps))
   count_of_labels = sym (length-map labels string_bytes) ∙ ap length indexed.numbered.in_order
 
@@ -53,13 +53,10 @@ module _ (states first : ℕ) (labels : List (String Global)) (steps : List Step
       one_number (map string_bytes labels) (label_at labels label_no) label_no other (subst (λ texts. IsDistinct bytes_eq texts) (sym indexed.numbered.in_order) (labels_of-distinct (steps_of labels steps)))
       (label_at-numbered labels label_no within) (label_at-numbered labels other other_within ∙ ap Some (sym same))
 
-  pub has_state : (s : ℕ) → s < states → HasState table s
-  has_state s below = (states, indexed.ranks, steps, below, indexed.has)
-
-  pub successors-post : (s label_no : ℕ) → label_no < length (labels_of (steps_of labels steps)) → successors_of steps s label_no ≡ post (record { states = states; initial = first; steps = steps_of labels steps }) (s ∷ []) (label_of (steps_of labels steps) label_no)
+  pub successors-post : (s label_no : ℕ) → label_no < length (labels_of (steps_of labels steps)) → successors_of steps s label_no ≡ post (system_of states first labels steps) (s ∷ []) (label_of (steps_of labels steps) label_no)
   successors-post s label_no within =
       successors_of-post (label_at labels) (length labels) steps states first s label_no naming (omega (arith, within, count_of_labels)) indexed.numbered.numbers
-      ∙ ap (post system (s ∷ [])) (sym (label_of-at label_no))
+      ∙ ap (post (system_of states first labels steps) (s ∷ [])) (sym (label_of-at label_no))
 
   module _ (s : ℕ) (label_nos : List ℕ) (are : AreLabelsFrom indexed.ranks steps s label_nos) where
     in_labels : (label_no : ℕ) → Contains label_nos label_no → label_no < length labels

@@ -168,7 +168,8 @@ none_passes labels label none (place, within, at) = by (cases_lt (position_or_le
 pub no_step_has : (steps : List Step) (label : Label) (step : Step) → position (bytes_eq label) (labels_of steps) ≡ None → step.label ≡ label → ¬ Contains steps step
 no_step_has steps label step none same here = none_passes (labels_of steps) label none (subst (Contains (labels_of steps)) same (labels_of-has steps step here))
 
-found_label : (labels : List Label) (label : Label) (label_no : ℕ) → position (bytes_eq label) labels ≡ Some label_no → slice_get labels label_no ≡ Some label
+-- a label that is found stands at its number
+pub found_label : (labels : List Label) (label : Label) (label_no : ℕ) → position (bytes_eq label) labels ≡ Some label_no → slice_get labels label_no ≡ Some label
 found_label labels label label_no e =
     let at = position-Some (bytes_eq label) labels label_no [] e in
     slice_get-get_or labels label_no [] at.0 ∙ ap Some (sym (same_bytes label (get_or labels label_no []) at.1))

@@ -6,16 +6,14 @@ use Rattle.std.specs.Str.{bytes_eq}
 use Rattle.std.specs.declared.alloc.Global.{Global}
 use Rattle.std.proofs.lemmas.List.{map-append, length-map}
 use Rattle.std.proofs.lemmas.List.Elements.{All-append, All-map}
-use Rattle.std.proofs.lemmas.List.Quantifiers.{position-Some}
-use Rattle.std.proofs.lemmas.Option.{slice_get-map, slice_get-get_or, slice_get_within, get_or_from_slice_get}
+use Rattle.std.proofs.lemmas.Option.{slice_get-map, slice_get_within, get_or_from_slice_get}
 use Rattle.std.proofs.lemmas.Slice.Eq.{bytes_eq-Decides}
-use Rattle.std.proofs.Math.ListN.{get_or}
 use Rattle.indexmap.specs.IndexSet.{insert_key}
 use Rattle.spectro_spec.specs.System as spec
 use Rattle.spectro_lts.specs.Labels.{labels_of, IsLabel, IsStepAt}
 use Rattle.spectro_lts.specs.Numbered.{label_at, labelled, steps_of, IsNumbered, GivesNumber}
 use Rattle.spectro_lts.specs.declared.step.Step.{Step}
-use Rattle.spectro_lts.proofs.LabelLaws.{list_any-map, list_any-labels_of, labels_of-push}
+use Rattle.spectro_lts.proofs.LabelLaws.{found_label, list_any-map, list_any-labels_of, labels_of-push}
 
 -- the first place is that of the items before they are mapped
 prefix_len-map : {X Y : Type 0} (p : Y → Bool) (f : X → Y) (xs : List X) → prefix_len p (map f xs) ≡ prefix_len (λ x. p (f x)) xs
@@ -25,12 +23,6 @@ prefix_len-map p f (x ∷ xs) = rw (prefix_len-map p f xs) refl
 position-map : {X Y : Type 0} (p : Y → Bool) (f : X → Y) (xs : List X) → position p (map f xs) ≡ position (λ x. p (f x)) xs
 position-map p f xs = rw (prefix_len-map _ f xs, length-map xs f) refl
 
--- a label that is found stands at its number
-found_label : (labels : List (String Global)) (label : spec.Label) (label_no : ℕ) → position (λ key. bytes_eq label (string_bytes key)) labels ≡ Some label_no → slice_get (map string_bytes labels) label_no ≡ Some label
-found_label labels label label_no e =
-    let at = position-Some (bytes_eq label) (map string_bytes labels) label_no [] (position-map (bytes_eq label) string_bytes labels ∙ e) in
-    slice_get-get_or (map string_bytes labels) label_no [] at.0 ∙ ap Some (sym ((bytes_eq-Decides label (get_or (map string_bytes labels) label_no [])).0 at.1))
-
 pub given_old : (labels : List (String Global)) (label : spec.Label) (label_no : ℕ) → position (λ key. bytes_eq label (string_bytes key)) labels ≡ Some label_no
     → list_any (λ key. bytes_eq label (string_bytes key)) labels ≡ true → GivesNumber labels label labels label_no
 given_old labels label label_no e there = record {
@@ -39,7 +31,7 @@ given_old labels label label_no e there = record {
   few = omega arith;
   alike = λ place default within. absurd (omega arith);
   labels = rw (list_any-map (bytes_eq label) string_bytes labels, there) refl;
-  found = found_label labels label label_no e;
+  found = found_label (map string_bytes labels) label label_no (position-map (bytes_eq label) string_bytes labels ∙ e);
 }
 
 -- a new label goes behind the others
