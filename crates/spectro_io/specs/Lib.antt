@@ -10,3 +10,6 @@ pub mod Shelves
 pub mod Plans
 pub mod Memory
 pub mod Entries
+pub mod LineReaders
+pub mod Buffers
+pub mod LineSteps

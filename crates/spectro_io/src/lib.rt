@@ -3,6 +3,7 @@
 
 mod bytes;
 mod devices;
+mod line_reader;
 mod lines;
 mod memory;
 mod read;
@@ -10,6 +11,7 @@ mod text;
 mod write;
 
 pub use devices::{Failed, Shelf, Sink, Source};
+pub use line_reader::{Got, LineReader};
 pub use lines::{LineAt, line_at};
 pub use memory::{MemShelf, MemSink, MemSource};
 pub use read::{READ_LIMIT, ReadError, read_all};

@@ -11,7 +11,7 @@ use std::alloc::{AllocError, Global};
 pub const READ_LIMIT: usize = 67_108_865;
 
 // Bytes that are lent to one read.
-const PIECE: usize = 65_536;
+pub(crate) const PIECE: usize = 65_536;
 
 /// Why a text was not read.
 #[derive(Clone, Copy, Debug, PartialEq, Eq)]
