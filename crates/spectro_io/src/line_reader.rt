@@ -26,9 +26,9 @@ const BEGUN_LIMIT: usize = LINE_LIMIT + 2;
 pub enum Got {
     /// A line.
     Line,
-    /// Nothing: no line is left.
+    /// No line is left.
     End,
-    /// Nothing: there are more bytes than a text may have.
+    /// There are more bytes than a text may have.
     Over,
 }
 
