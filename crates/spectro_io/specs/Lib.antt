@@ -1,5 +1,6 @@
 pub mod Faults
 pub mod Bytes
+pub mod Batches
 pub mod Blanks
 pub mod Numbers
 pub mod Fronts

@@ -1,6 +1,7 @@
 //! Devices that bytes come from and go to, and what texts are made of: lines, blanks and numbers.
 #![tactic(auto)]
 
+mod batch;
 mod bytes;
 mod devices;
 mod line_reader;
@@ -10,6 +11,7 @@ mod read;
 mod text;
 mod write;
 
+pub use batch::Batch;
 pub use devices::{Failed, Shelf, Sink, Source};
 pub use line_reader::{Got, LineReader};
 pub use lines::{LineAt, line_at};
