@@ -5,7 +5,7 @@ use Rattle.std.specs.Io.KnownBytes.{Appends}
 use Rattle.std.proofs.KnownBytes.{Appends-trans, Appends-nil}
 use Rattle.spectro_io.specs.Bytes.{AppendsPart, WritesWhole}
 use Rattle.spectro_io.specs.Batches.{IsPending, Puts}
-use Rattle.spectro_io.proofs.Written.{AppendsPart-back}
+use Rattle.spectro_io.proofs.Written.{AppendsPart-front, AppendsPart-back}
 
 -- nothing was written yet
 pub pending-none : (now : Option (List ℕ)) (held : List ℕ) → IsPending now now held held
@@ -24,6 +24,11 @@ pub pending-part : (start mid now : Option (List ℕ)) (held all more : List ℕ
 pending-part start mid now held all more first second =
     let whole : all ++ more ≡ first.gone ++ (held ++ more) = ap (λ bytes. bytes ++ more) first.whole ∙ append_assoc first.gone held more in
     subst (AppendsPart start now) (sym whole) (AppendsPart-back start mid now first.gone (held ++ more) first.written second)
+
+-- an error stopped the writing before the rest of the whole, which is not written either
+pub puts-stopped : (start mid now : Option (List ℕ)) (held all more back whole : List ℕ) → whole ≡ (all ++ more) ++ back → IsPending start mid held all → AppendsPart mid now (held ++ more) → AppendsPart start now whole
+puts-stopped start mid now held all more back whole parts first second =
+    subst (AppendsPart start now) (sym parts) (AppendsPart-front start now (all ++ more) back (pending-part start mid now held all more first second))
 
 -- more bytes are put behind what is pending
 pub puts-more : {E : Type 0} (start mid now : Option (List ℕ)) (result : Result (Unit {0}) E) (held all more_held more : List ℕ) → IsPending start mid held all → Puts mid now result more_held (held ++ more) → Puts start now result more_held (all ++ more)
