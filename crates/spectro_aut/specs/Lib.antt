@@ -1,3 +1,4 @@
+pub mod Kinds
 pub mod PlainLabels
 pub mod Grammar
 pub mod Faults
