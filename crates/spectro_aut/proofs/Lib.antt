@@ -5,3 +5,4 @@ pub mod Headers
 pub mod Lines
 pub mod Steps
 pub mod Texts
+pub mod Writing

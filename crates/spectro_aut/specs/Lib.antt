@@ -3,3 +3,4 @@ pub mod PlainLabels
 pub mod Grammar
 pub mod Faults
 pub mod Reading
+pub mod Written

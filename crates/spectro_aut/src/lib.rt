@@ -8,8 +8,10 @@ mod line;
 mod plain_label;
 mod reader;
 mod unique;
+mod writer;
 
 pub use error::{AutError, AutFault, AutKind};
 pub use plain_label::plain_label_at;
 pub use reader::read;
 pub use unique::one_system;
+pub use writer::write;

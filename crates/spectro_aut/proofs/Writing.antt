@@ -1,0 +1,42 @@
+-- The text of a system in the pieces in which it is written.
+use Rattle.std.proofs.Common.{◌≡◌, ◌∙◌, ℕ, ◌+◌, List, [], ◌∷◌, ◌++◌, length, take, drop, sym, ap, append_assoc, take-append-drop}
+use Rattle.std.specs.Prelude.{slice_get, Some, codes}
+use Rattle.std.specs.Fmt.{decimal}
+use Rattle.std.specs.List.{flat_map}
+use Rattle.std.proofs.lemmas.Grind.{flat_map-append}
+use Rattle.std.proofs.lemmas.List.{flat_map_more, take_more}
+use Rattle.std.proofs.lemmas.Option.{slice_get_within, get_or_from_slice_get}
+use Rattle.spectro_spec.specs.System.{Label, Step, System}
+use Rattle.spectro_lts.specs.Labels.{labels_of, IsStepAt}
+use Rattle.spectro_aut.specs.Written.{header_text, step_text}
+
+-- the header behind what is held, in the pieces in which it is put
+pub header-pieces : (held : List ℕ) (system : System) → held ++ header_text system ≡ (((held ++ (codes "des (" ++ decimal system.initial)) ++ (codes ", " ++ decimal (length system.steps))) ++ (codes ", " ++ decimal system.states)) ++ codes ")\n"
+header-pieces held system = simp append_assoc
+
+-- the text of a step behind what is held, in the pieces in which it is put
+pub step-pieces : (held : List ℕ) (step : Step) → held ++ step_text step ≡ ((((held ++ (codes "(" ++ decimal step.source)) ++ codes ", \"") ++ step.label) ++ (codes "\", " ++ decimal step.target)) ++ codes ")\n"
+step-pieces held step = simp append_assoc
+
+-- the step at a place, with the text that its label has
+pub step-at : (steps : List Step) (place source label_no target : ℕ) (label : Label) → IsStepAt steps place source label_no target → slice_get (labels_of steps) label_no ≡ Some label
+    → slice_get steps place ≡ Some (record { source = source; label = label; target = target })
+step-at steps place source label_no target label step named =
+    let same : step.label ≡ label = let numbered = step.numbered in cc in
+    step.found ∙ ap (λ label. Some (record { source = source; label = label; target = target })) same
+
+-- the text of one step more
+pub steps-more : (front : List ℕ) (steps : List Step) (place : ℕ) (step : Step) → slice_get steps place ≡ Some step
+    → (front ++ flat_map step_text (take place steps)) ++ step_text step ≡ front ++ flat_map step_text (take (place + 1) steps)
+steps-more front steps place step found =
+    let more : take (place + 1) steps ≡ take place steps ++ step ∷ [] =
+    take_more steps place step (slice_get_within steps place step found) ∙ ap (λ last. take place steps ++ last ∷ []) (get_or_from_slice_get steps place step step found) in
+    flat_map_more step_text front (take place steps) step ∙ ap (λ steps. front ++ flat_map step_text steps) (sym more)
+
+-- the text up to a step, and the text of the steps after it
+pub steps-parts : (front : List ℕ) (steps : List Step) (place : ℕ) (step : Step) → slice_get steps place ≡ Some step
+    → front ++ flat_map step_text steps ≡ ((front ++ flat_map step_text (take place steps)) ++ step_text step) ++ flat_map step_text (drop (place + 1) steps)
+steps-parts front steps place step found =
+    let whole : flat_map step_text steps ≡ flat_map step_text (take (place + 1) steps) ++ flat_map step_text (drop (place + 1) steps) =
+    ap (flat_map step_text) (sym (take-append-drop (place + 1) steps)) ∙ flat_map-append step_text (take (place + 1) steps) (drop (place + 1) steps) in
+    ap (λ text. front ++ text) whole ∙ sym (append_assoc front _ _) ∙ ap (λ text. text ++ flat_map step_text (drop (place + 1) steps)) (sym (steps-more front steps place step found))
