@@ -1,5 +1,6 @@
 pub mod Chain
 pub mod Faults
 pub mod Grammar
+pub mod Kinds
 pub mod Reading
 pub mod Truth

@@ -1,3 +1,6 @@
+ghost use Rattle.std.specs.Prelude.{◌≡◌};
+ghost use Rattle.spectro_hml.specs.Kinds.{kind_name};
+
 use std::fmt;
 use thiserror::Error;
 
@@ -21,6 +24,17 @@ pub struct TextFault {
 pub enum TextKind {
     /// The text is no row of observations before `tt`.
     NotPlain = 6,
+}
+
+impl TextKind {
+    /// The kind's name.
+    pub fn name(&self) -> &'static str
+        ensures { result.now ≡ kind_name self.now }
+    {
+        match self {
+            TextKind::NotPlain => "NotPlain",
+        }
+    }
 }
 
 impl fmt::Display for TextFault {
