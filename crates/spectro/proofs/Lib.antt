@@ -1,3 +1,4 @@
 pub mod Evaluated
 pub mod Finished
 pub mod OneOutcome
+pub mod WrittenPieces

@@ -6,4 +6,6 @@ pub mod Commands
 pub mod Outcome
 pub mod Causes
 pub mod Codes
+pub mod Pieces
+pub mod Messages
 pub mod Real

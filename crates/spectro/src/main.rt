@@ -3,7 +3,9 @@
 
 mod commands;
 mod devices;
+mod message;
 mod output;
+mod pieces;
 mod run;
 mod status;
 #[cfg(test)]

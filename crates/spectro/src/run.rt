@@ -1,10 +1,13 @@
-ghost use Rattle.std.specs.Prelude.{◌≡◌, Some, None, IfSome};
+ghost use Rattle.std.specs.Prelude.{◌≡◌, None, IfSome};
+ghost use Rattle.std.specs.Option.{option_map};
 ghost use Rattle.spectro.specs.Asked.{asked};
 ghost use Rattle.spectro.specs.Causes.{HasCauses};
+ghost use Rattle.spectro.specs.Messages.{IsUntold, Tells, message};
 ghost use Rattle.spectro.specs.Outcome.{Answers, CommandOutcome, IsOutcome, IsSilent};
 ghost use Rattle.spectro.specs.Words.{command, words_of};
 
 use crate::commands::eval::eval;
+use crate::message::write_message;
 use crate::status::Status;
 use crate::words::{Command, command_of};
 use spectro_io::{Shelf, Sink, Source};
@@ -13,24 +16,27 @@ use std::alloc::Global;
 // Does what the command asks for.
 fn perform<H: Shelf, O: Sink>(
     alloc: Global,
-    command: Command<'_>,
+    command: Option<Command<'_>>,
     shelf: &mut H,
     out: &mut O,
 ) -> Status
-    ensures answer { IfSome (H.texts shelf.old) (λ texts. Answers (CommandOutcome (Some (asked command.entry)) texts) result (O.written out.old) (O.written out.new)) }
-    ensures causes { HasCauses (H.texts shelf.old) (Some (asked command.entry)) (record { shelf_before = H.faults shelf.old; shelf_now = H.faults shelf.new; out_before = O.faults out.old; out_now = O.faults out.new }) result }
+    ensures answer { IfSome (H.texts shelf.old) (λ texts. Answers (CommandOutcome (option_map asked command.entry) texts) result (O.written out.old) (O.written out.new)) }
+    ensures causes { HasCauses (H.texts shelf.old) (option_map asked command.entry) (record { shelf_before = H.faults shelf.old; shelf_now = H.faults shelf.new; out_before = O.faults out.old; out_now = O.faults out.new }) result }
     ensures silent { IsSilent result out.old out.new }
+    ensures shelf { command.entry ≡ None → shelf.new ≡ shelf.old }
     ensures texts { H.texts shelf.new ≡ H.texts shelf.old }
 {
     match command {
-        Command::Eval { formula, file } => eval(alloc, formula, file, shelf, out),
+        None => Status::Usage,
+        Some(Command::Eval { formula, file }) => eval(alloc, formula, file, shelf, out),
     }
 }
 
-/// Does what the words ask for, over the devices.
+/// Does what the words ask for, over the devices, and writes the message of how it ended.
 ///
 /// The order is: the words; opening and reading the file, then its grammar; the formula; the writing. The
-/// first refusal that is met is the answer. All memory is taken before the first byte is written.
+/// first refusal that is met is the answer. All memory is taken before the first byte is written. A message
+/// that cannot be written changes nothing of the answer.
 pub fn run<H: Shelf, I: Source, O: Sink, E: Sink>(
     alloc: Global,
     words: &[String],
@@ -45,15 +51,18 @@ pub fn run<H: Shelf, I: Source, O: Sink, E: Sink>(
     // A fault of a device has its cause, and the words are refused exactly where they are no command.
     ensures causes { HasCauses (H.texts shelf.old) (command (words_of words.now)) (record { shelf_before = H.faults shelf.old; shelf_now = H.faults shelf.new; out_before = O.faults out.old; out_now = O.faults out.new }) result }
 
+    // The message is that of the words and the status.
+    ensures message { Tells (message (words_of words.now) result) (E.written err.old) (E.written err.new) (E.faults err.old) (E.faults err.new) }
+    ensures untold { IsUntold result err.old err.new }
+
     // What is left alone.
     ensures silent { IsSilent result out.old out.new }
     ensures shelf { command (words_of words.now) ≡ None → shelf.new ≡ shelf.old }
     ensures texts { H.texts shelf.new ≡ H.texts shelf.old }
     ensures input { input.new ≡ input.old }
-    ensures err { err.new ≡ err.old }
 {
-    match command_of(words) {
-        None => Status::Usage,
-        Some(command) => perform(alloc, command, shelf, out),
-    }
+    let command = command_of(words);
+    let status = perform(alloc, command, shelf, out);
+    let _told = write_message(command, status, err);
+    status
 }

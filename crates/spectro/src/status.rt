@@ -1,5 +1,6 @@
 ghost use Rattle.std.specs.Prelude.{◌≡◌};
 ghost use Rattle.spectro.specs.Codes.{code_of};
+ghost use Rattle.spectro.specs.Messages.{kind_name};
 ghost use Rattle.spectro.specs.declared.status.Status.TheVariants.{OutOfMemory};
 
 use spectro_aut::AutKind;
@@ -49,6 +50,18 @@ pub enum Which {
 pub enum Kind {
     Aut(AutKind),
     Formula(TextKind),
+}
+
+impl Kind {
+    /// The kind's name, without its numbers.
+    pub fn name(&self) -> &'static str
+        ensures { result.now ≡ kind_name self.now }
+    {
+        match self {
+            Kind::Aut(kind) => kind.name(),
+            Kind::Formula(kind) => kind.name(),
+        }
+    }
 }
 
 impl From<AllocError> for Status {

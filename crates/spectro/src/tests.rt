@@ -2,6 +2,7 @@
 
 mod devices;
 mod eval;
+mod messages;
 
 use crate::run::run;
 use crate::status::Status;
@@ -56,18 +57,20 @@ fn shelf_with(
     Ok(shelf)
 }
 
-// A run over the files, with an output that takes one byte a call. These calls of the shelf and of the output fail.
+// A run over the files, with outputs that take one byte a call. These calls of the shelf, of the output and of the
+// error output fail.
 fn run_words(
     alloc: Global,
     given: &[&str],
     shelf_fails: &[u64],
     out_fails: &[u64],
+    err_fails: &[u64],
 ) -> Result<Run, AllocError> {
     let words = words_of(alloc, given)?;
     let mut shelf = shelf_with(alloc, &FILES, shelf_fails)?;
     let mut input = MemSource::new(alloc, b"", 1, &[])?;
     let mut out = MemSink::new(alloc, 1000, 1, out_fails)?;
-    let mut err = MemSink::new(alloc, 1000, 1, &[])?;
+    let mut err = MemSink::new(alloc, 1000, 1, err_fails)?;
     let status = run(
         alloc,
         words.as_slice(),

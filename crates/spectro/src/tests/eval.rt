@@ -18,7 +18,7 @@ fn runs_with_ample_memory(rt: HostRuntime) -> Result<(), Fail> {
         ),
     ];
     for (formula, file, output) in rows {
-        let run = run_words(rt.alloc(), &["eval", formula, file], &[], &[])?;
+        let run = run_words(rt.alloc(), &["eval", formula, file], &[], &[], &[])?;
         assert_eq!(rt; run.status, Status::Done, "{formula} {file}");
         assert_eq!(rt; run.out.written(), output.as_bytes(), "{formula} {file}");
         assert_eq!(rt; run.err.written(), b"".as_slice(), "{formula} {file}");
@@ -48,7 +48,7 @@ fn refuses_the_file_before_the_formula(rt: HostRuntime) -> Result<(), Fail> {
         (&["compare", "tt", "stopped.aut"], Status::Usage, 2),
     ];
     for (words, status, code) in rows {
-        let run = run_words(rt.alloc(), words, &[], &[])?;
+        let run = run_words(rt.alloc(), words, &[], &[], &[])?;
         assert_eq!(rt; run.status, status, "{words:?}");
         assert_eq!(rt; run.status.code(), code, "{words:?}");
         assert_eq!(rt; run.out.written(), b"".as_slice(), "{words:?}");
@@ -68,7 +68,7 @@ fn answers_the_fault_of_a_device(rt: HostRuntime) -> Result<(), Fail> {
     ];
     for (shelf_fails, out_fails, status, code, output) in rows {
         let words = ["eval", "tt", "stopped.aut"];
-        let run = run_words(rt.alloc(), &words, shelf_fails, out_fails)?;
+        let run = run_words(rt.alloc(), &words, shelf_fails, out_fails, &[])?;
         assert_eq!(rt; run.status, status, "{shelf_fails:?} {out_fails:?}");
         assert_eq!(rt; run.status.code(), code, "{shelf_fails:?} {out_fails:?}");
         assert_eq!(rt;

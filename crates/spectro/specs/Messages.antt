@@ -1,0 +1,61 @@
+-- What is written to the error output: one line for each status but those that answer the command.
+use Rattle.std.specs.Prelude.{ℕ, ◌≡◌, ◌⊎◌, List, [], ◌++◌, Option, Some, codes}
+use Rattle.std.specs.Fmt.{decimal}
+use Rattle.std.specs.Io.KnownBytes.{Appends}
+use Rattle.spectro_io.specs.Bytes.{AppendsPart}
+use Rattle.spectro_io.specs.Faults.{Rose}
+use Rattle.spectro_aut.specs.Kinds as aut
+use Rattle.spectro_aut.specs.declared.error.AutKind.TheVariants.{MissingLines}
+use Rattle.spectro_hml.specs.Kinds as hml
+use Rattle.spectro.specs.Words.{Word, Command, eval, command}
+use Rattle.spectro.specs.declared.status.BadText as declared
+use Rattle.spectro.specs.declared.status.Kind.{Kind}
+use Rattle.spectro.specs.declared.status.Kind.TheVariants as kinds
+use Rattle.spectro.specs.declared.status.Status.{Status}
+use Rattle.spectro.specs.declared.status.Status.TheVariants.{Done, No, Usage, BadText, TooLarge, ReadFault, WriteFault, OutOfMemory}
+use Rattle.spectro.specs.declared.status.Which.{Which}
+use Rattle.spectro.specs.declared.status.Which.TheVariants.{Left, Formula}
+
+-- how a text of the command is called: a file by its name, and the formula by that word
+abbrev pub text_name : Which → Option Command → List ℕ
+text_name Formula asked = codes "formula"
+text_name Left (Some (eval formula file)) = file
+text_name which asked = []
+
+abbrev pub kind_name : Kind → List ℕ
+kind_name (kinds.Aut kind) = aut.kind_name kind
+kind_name (kinds.Formula kind) = hml.kind_name kind
+
+-- how many lines the header said and how many were found, where the kind tells it
+abbrev pub counts_text : Kind → List ℕ
+counts_text (kinds.Aut (MissingLines said found)) = codes " said " ++ decimal said ++ codes " found " ++ decimal found
+counts_text kind = []
+
+-- where a text of this name was refused, and why
+abbrev pub fault_text : List ℕ → declared.BadText → List ℕ
+fault_text name fault = codes "spectro: " ++ name ++ codes ":" ++ decimal fault.at ++ codes ": " ++ kind_name fault.kind ++ counts_text fault.kind ++ codes "\n"
+
+-- what is told of a command that ended so: nothing where it was done or answers no
+abbrev pub command_message : Option Command → Status → List ℕ
+command_message asked Done = []
+command_message asked No = []
+command_message asked Usage = codes "spectro: words not understood\n"
+command_message asked (BadText fault) = fault_text (text_name fault.which asked) fault
+command_message asked (TooLarge limit) = codes "spectro: more than " ++ decimal limit ++ codes " positions\n"
+command_message asked ReadFault = codes "spectro: cannot read\n"
+command_message asked WriteFault = codes "spectro: cannot write\n"
+command_message asked OutOfMemory = codes "spectro: out of memory\n"
+
+-- the message of the words and the status
+abbrev pub message : List Word → Status → List ℕ
+message words status = command_message (command words) status
+
+-- the bytes were written whole, or, where the count of faults rose, a proper prefix of them
+abbrev pub Tells : List ℕ → Option (List ℕ) → Option (List ℕ) → ℕ → ℕ → Type 0
+Tells bytes old new before now = Appends old new bytes ⊎ (AppendsPart old new bytes × Rose before now)
+
+-- nothing is told where the command was done or answers no
+abbrev pub IsUntold : {Device : Type 0} → Status → Device → Device → Type 0
+IsUntold Done old new = new ≡ old
+IsUntold No old new = new ≡ old
+IsUntold status old new = Unit {0}
