@@ -3,7 +3,7 @@ use Rattle.std.specs.Prelude.{ℕ, ◌≡◌, ◌⊎◌, List, take, Option, Non
 use Rattle.spectro_io.specs.Faults.{Rose}
 use Rattle.spectro_io.specs.Limits.{read_limit}
 use Rattle.spectro_io.specs.Shelves.{Texts}
-use Rattle.spectro.specs.Words.{Word, Command, eval}
+use Rattle.spectro.specs.Words.{Word, Command, eval, rewrite}
 use Rattle.spectro.specs.declared.status.Status.{Status}
 use Rattle.spectro.specs.declared.status.Status.TheVariants.{Usage, ReadFault, WriteFault, OutOfMemory}
 
@@ -28,6 +28,7 @@ OrMemory P status = (status ≡ OutOfMemory) ⊎ P status
 abbrev pub LacksFile : Option Texts → Option Command → Type 0
 LacksFile told None = ⊥
 LacksFile told (Some (eval formula file)) = HoldsNothing told file
+LacksFile told (Some (rewrite file)) = HoldsNothing told file
 
 -- how often the devices had failed before the call, and after it
 pub record Counts : Type 0 where

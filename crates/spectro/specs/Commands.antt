@@ -1,2 +1,3 @@
 -- What each command gives, one file a command.
 pub mod Eval
+pub mod Rewrite

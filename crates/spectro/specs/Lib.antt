@@ -1,6 +1,7 @@
 pub mod Words
 pub mod Asked
 pub mod Refusals
+pub mod Files
 pub mod Notation
 pub mod Commands
 pub mod Outcome

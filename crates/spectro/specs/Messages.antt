@@ -7,7 +7,7 @@ use Rattle.spectro_io.specs.Faults.{Rose}
 use Rattle.spectro_aut.specs.Kinds as aut
 use Rattle.spectro_aut.specs.declared.error.AutKind.TheVariants.{MissingLines}
 use Rattle.spectro_hml.specs.Kinds as hml
-use Rattle.spectro.specs.Words.{Word, Command, eval, command}
+use Rattle.spectro.specs.Words.{Word, Command, eval, rewrite, command}
 use Rattle.spectro.specs.declared.status.BadText as declared
 use Rattle.spectro.specs.declared.status.Kind.{Kind}
 use Rattle.spectro.specs.declared.status.Kind.TheVariants as kinds
@@ -20,6 +20,7 @@ use Rattle.spectro.specs.declared.status.Which.TheVariants.{Left, Formula}
 abbrev pub text_name : Which → Option Command → List ℕ
 text_name Formula asked = codes "formula"
 text_name Left (Some (eval formula file)) = file
+text_name Left (Some (rewrite file)) = file
 text_name which asked = []
 
 abbrev pub kind_name : Kind → List ℕ

@@ -3,15 +3,18 @@ use Rattle.std.specs.Prelude.{ℕ, ◌≡◌, List, [], Option, None, Some}
 use Rattle.std.specs.Io.KnownBytes.{Appends, Keeps}
 use Rattle.spectro_io.specs.Shelves.{Texts}
 use Rattle.spectro_io.specs.Bytes.{AppendsPart}
-use Rattle.spectro.specs.Commands.Eval.{EvalOutcome}
-use Rattle.spectro.specs.Words.{Word, Command, eval, command}
+use Rattle.spectro.specs.Commands.Eval.{EvalGives}
+use Rattle.spectro.specs.Commands.Rewrite.{RewriteGives}
+use Rattle.spectro.specs.Files.{FileOutcome}
+use Rattle.spectro.specs.Words.{Word, Command, eval, rewrite, command}
 use Rattle.spectro.specs.declared.status.Status.{Status}
 use Rattle.spectro.specs.declared.status.Status.TheVariants.{Done, No, Usage, ReadFault, WriteFault, OutOfMemory}
 
 -- what the command gives, if the words are one
 abbrev pub CommandOutcome : Option Command → Texts → Status → List ℕ → Type 0
 CommandOutcome None texts status bytes = (status ≡ Usage) × (bytes ≡ [])
-CommandOutcome (Some (eval formula file)) texts status bytes = EvalOutcome formula (texts file) status bytes
+CommandOutcome (Some (eval formula file)) texts status bytes = FileOutcome (EvalGives formula) (texts file) status bytes
+CommandOutcome (Some (rewrite file)) texts status bytes = FileOutcome RewriteGives (texts file) status bytes
 
 -- the outcome of the words over these texts
 abbrev pub IsOutcome : List Word → Texts → Status → List ℕ → Type 0

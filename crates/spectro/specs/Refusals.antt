@@ -1,6 +1,8 @@
--- The refusal of a text by its grammar, as a status.
+-- Of what a text is, and the refusal of one by its grammar, as a status.
 use Rattle.std.specs.Prelude.{ℕ, ◌≡◌, List}
+use Rattle.spectro_spec.specs.System.{System}
 use Rattle.spectro_aut.specs.Faults as aut
+use Rattle.spectro_aut.specs.Grammar.{IsPlainText}
 use Rattle.spectro_aut.specs.declared.error.AutFault.{AutFault}
 use Rattle.spectro_hml.specs.Faults as hml
 use Rattle.spectro_hml.specs.declared.error.TextFault.{TextFault}
@@ -9,6 +11,10 @@ use Rattle.spectro.specs.declared.status.Status.TheVariants.{BadText}
 use Rattle.spectro.specs.declared.status.Which.{Which}
 use Rattle.spectro.specs.declared.status.Which.TheVariants.{Formula}
 use Rattle.spectro.specs.declared.status.Kind.TheVariants as kinds
+
+-- the text is one of the system
+abbrev pub IsTextOf : List ℕ → System → Type 0
+IsTextOf text system = IsPlainText text system
 
 -- the text is of no system, and the status says where and why
 abbrev pub RefusesSystem : Which → List ℕ → Status → Type 0

@@ -9,10 +9,13 @@ Word = List ℕ
 pub data Command : Type 0 where
   -- the text of a formula, and the name of a file
   eval : Word → Word → Command
+  -- the name of a file
+  rewrite : Word → Command
 
 -- the command that the words are, if they are one
 abbrev pub command : List Word → Option Command
 command (verb ∷ formula ∷ file ∷ []) = if bytes_eq verb (codes "eval") then Some (eval formula file) else None
+command (verb ∷ file ∷ []) = if bytes_eq verb (codes "rewrite") then Some (rewrite file) else None
 command words = None
 
 -- the words as the code has them

@@ -1,3 +1,4 @@
 //! What each command does, one file a command.
 
 pub mod eval;
+pub mod rewrite;

@@ -17,7 +17,7 @@ fn text_name<'a>(which: Which, command: Option<Command<'a>>) -> &'a str
 {
     match (which, command) {
         (Which::Formula, _) => "formula",
-        (Which::Left, Some(Command::Eval { file, .. })) => file,
+        (Which::Left, Some(Command::Eval { file, .. } | Command::Rewrite { file })) => file,
         _ => "",
     }
 }

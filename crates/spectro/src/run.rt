@@ -7,6 +7,7 @@ ghost use Rattle.spectro.specs.Outcome.{Answers, CommandOutcome, IsOutcome, IsSi
 ghost use Rattle.spectro.specs.Words.{command, words_of};
 
 use crate::commands::eval::eval;
+use crate::commands::rewrite::rewrite;
 use crate::message::write_message;
 use crate::status::Status;
 use crate::words::{Command, command_of};
@@ -29,6 +30,7 @@ fn perform<H: Shelf, O: Sink>(
     match command {
         None => Status::Usage,
         Some(Command::Eval { formula, file }) => eval(alloc, formula, file, shelf, out),
+        Some(Command::Rewrite { file }) => rewrite(alloc, file, shelf, out),
     }
 }
 

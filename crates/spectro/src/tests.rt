@@ -3,6 +3,7 @@
 mod devices;
 mod eval;
 mod messages;
+mod rewrite;
 
 use crate::run::run;
 use crate::status::Status;

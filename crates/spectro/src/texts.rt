@@ -1,10 +1,9 @@
 //! The texts that commands ask for: read whole from the shelf, and then taken as what they stand for.
 
 ghost use Rattle.std.specs.Prelude.{◌≡◌, ◌≤◌, IfOk, IfErr, IfSome};
-ghost use Rattle.spectro_aut.specs.Grammar.{IsPlainText};
 ghost use Rattle.spectro_hml.specs.Grammar.{IsPlainFormula};
 ghost use Rattle.spectro.specs.Causes.{HasRead, OrMemory, IsUnread};
-ghost use Rattle.spectro.specs.Refusals.{RefusesSystem, RefusesFormula};
+ghost use Rattle.spectro.specs.Refusals.{IsTextOf, RefusesSystem, RefusesFormula};
 
 use crate::status::{BadText, Kind, Status, Which};
 use spectro_aut::AutError;
@@ -32,7 +31,7 @@ pub fn read_text<H: Shelf>(alloc: Global, name: &str, shelf: &mut H) -> Result<V
 
 /// The system of which the bytes are a text.
 pub fn read_system(alloc: Global, bytes: &[u8], which: Which) -> Result<Lts, Status>
-    ensures ok { IfOk result (IsPlainText bytes.now) }
+    ensures ok { IfOk result (IsTextOf bytes.now) }
     ensures refused { IfErr result (OrMemory (RefusesSystem which bytes.now)) }
 {
     match spectro_aut::read(alloc, bytes) {

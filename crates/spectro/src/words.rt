@@ -8,6 +8,8 @@ ghost use Rattle.spectro.specs.Asked.{asked};
 pub enum Command<'a> {
     /// Whether the formula is true at the initial state of the file's system, and what it costs.
     Eval { formula: &'a str, file: &'a str },
+    /// The text that is written of the file's system.
+    Rewrite { file: &'a str },
 }
 
 /// The command that the words are, if they are one.
@@ -17,6 +19,9 @@ pub fn command_of(words: &[String]) -> Option<Command<'_>>
     match words {
         [verb, formula, file] if verb.as_str() == "eval" => Some(Command::Eval {
             formula: formula.as_str(),
+            file: file.as_str(),
+        }),
+        [verb, file] if verb.as_str() == "rewrite" => Some(Command::Rewrite {
             file: file.as_str(),
         }),
         _ => None,

@@ -1,7 +1,8 @@
 ghost use Rattle.std.specs.Prelude.{◌≡◌, Some, IfOk, IfErr, IfSome, string_bytes};
 ghost use Rattle.spectro_energy.specs.Energy.{price_of};
 ghost use Rattle.spectro.specs.Causes.{HasCauses, OrMemory};
-ghost use Rattle.spectro.specs.Commands.Eval.{EvalGives, EvalRefuses, eval_text};
+ghost use Rattle.spectro.specs.Commands.Eval.{EvalGives, eval_text};
+ghost use Rattle.spectro.specs.Files.{Refuses};
 ghost use Rattle.spectro.specs.Outcome.{Answers, CommandOutcome, IsSilent};
 ghost use Rattle.spectro.specs.Words as words;
 
@@ -34,7 +35,7 @@ fn eval_text(alloc: Global, truth: bool, price: Energy) -> Result<String, AllocE
 // What is to be written for these texts, or why nothing is.
 fn evaluate(alloc: Global, formula: &str, bytes: &[u8]) -> Result<String, Status>
     ensures ok { IfOk result (λ text. EvalGives formula.now bytes.now Status.Done (string_bytes text)) }
-    ensures refused { IfErr result (OrMemory (EvalRefuses formula.now bytes.now)) }
+    ensures refused { IfErr result (OrMemory (Refuses (EvalGives formula.now) bytes.now)) }
 {
     let lts = read_system(alloc, bytes, Which::Left)?;
     let chain = read_formula(alloc, formula)?;

@@ -1,0 +1,20 @@
+-- The answer of `rewrite` from the answers of its parts.
+use Rattle.std.proofs.Common.{◌≡◌, ℕ, List, take, refl, inl, inr}
+use Rattle.spectro_io.specs.Limits.{read_limit}
+use Rattle.spectro.specs.declared.status.Status.{Status}
+use Rattle.spectro.specs.declared.status.Which.TheVariants.{Left}
+use Rattle.spectro.specs.Causes.{OrMemory}
+use Rattle.spectro.specs.Commands.Rewrite.{RewriteGives, no_system, rewritten}
+use Rattle.spectro.specs.Files.{Refuses}
+use Rattle.spectro.specs.Refusals.{RefusesSystem}
+use Rattle.spectro.proofs.SystemTexts.{IsTextOf-whole, RefusesSystem-whole}
+
+-- what is given for as much of a text as is read is given for the whole
+pub RewriteGives-whole : (text bytes output : List ℕ) (status : Status) → bytes ≡ take read_limit text → RewriteGives bytes status output → RewriteGives text status output
+RewriteGives-whole text bytes output status front (no_system refused none) = no_system (RefusesSystem-whole Left text bytes status front refused) none
+RewriteGives-whole text bytes output status front (rewritten system is done says) = rewritten system (IsTextOf-whole text bytes system front is) done says
+
+-- the file is refused
+pub refused_file : (text : List ℕ) (status : Status) → OrMemory (RefusesSystem Left text) status → OrMemory (Refuses RewriteGives text) status
+refused_file text status (inl memory) = inl memory
+refused_file text status (inr refused) = inr (_, refused.2, no_system refused refl)
