@@ -1,4 +1,4 @@
--- What is written to the error output: one line for each status but those that answer the command.
+-- What is written to the error output: a line for each status but `Done` and `No`.
 use Rattle.std.specs.Prelude.{ℕ, ◌≡◌, ◌⊎◌, List, [], ◌++◌, Option, Some, codes}
 use Rattle.std.specs.Fmt.{decimal}
 use Rattle.std.specs.Io.KnownBytes.{Appends}
@@ -16,13 +16,14 @@ use Rattle.spectro.specs.declared.status.Status.TheVariants.{Done, No, Usage, Ba
 use Rattle.spectro.specs.declared.status.Which.{Which}
 use Rattle.spectro.specs.declared.status.Which.TheVariants.{Left, Formula}
 
--- how a text of the command is called: a file by its name, and the formula by that word
+-- how a text of the command is called: a file by its name, the formula by that word, and a text that it has not by nothing
 abbrev pub text_name : Which → Option Command → List ℕ
 text_name Formula asked = codes "formula"
 text_name Left (Some (eval formula file)) = file
 text_name Left (Some (rewrite file)) = file
 text_name which asked = []
 
+-- the name of the kind, whichever text it is of
 abbrev pub kind_name : Kind → List ℕ
 kind_name (kinds.Aut kind) = aut.kind_name kind
 kind_name (kinds.Formula kind) = hml.kind_name kind
@@ -36,7 +37,7 @@ counts_text kind = []
 abbrev pub fault_text : List ℕ → declared.BadText → List ℕ
 fault_text name fault = codes "spectro: " ++ name ++ codes ":" ++ decimal fault.at ++ codes ": " ++ kind_name fault.kind ++ counts_text fault.kind ++ codes "\n"
 
--- what is told of a command that ended so: nothing where it was done or answers no
+-- what is told of how a command ended: nothing where it was done or its answer is no
 abbrev pub command_message : Option Command → Status → List ℕ
 command_message asked Done = []
 command_message asked No = []
@@ -55,7 +56,7 @@ message words status = command_message (command words) status
 abbrev pub Tells : List ℕ → Option (List ℕ) → Option (List ℕ) → ℕ → ℕ → Type 0
 Tells bytes old new before now = Appends old new bytes ⊎ (AppendsPart old new bytes × Rose before now)
 
--- nothing is told where the command was done or answers no
+-- nothing is told where the command was done or its answer is no
 abbrev pub IsUntold : {Device : Type 0} → Status → Device → Device → Type 0
 IsUntold Done old new = new ≡ old
 IsUntold No old new = new ≡ old

@@ -1,4 +1,4 @@
--- Of what a text is, and the refusal of one by its grammar, as a status.
+-- What a text is one of, and its refusal by its grammar, as a status.
 use Rattle.std.specs.Prelude.{ℕ, ◌≡◌, List}
 use Rattle.spectro_spec.specs.System.{System}
 use Rattle.spectro_aut.specs.Faults as aut
