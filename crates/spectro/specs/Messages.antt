@@ -1,4 +1,4 @@
--- What is written to the error output: a line for each status but `Done` and `No`.
+-- What is written to the error output: a message for each status but `Done` and `No`.
 use Rattle.std.specs.Prelude.{ℕ, ◌≡◌, ◌⊎◌, List, [], ◌++◌, Option, Some, codes}
 use Rattle.std.specs.Fmt.{decimal}
 use Rattle.std.specs.Io.KnownBytes.{Appends}
