@@ -4,3 +4,4 @@ pub mod OneOutcome
 pub mod Rewritten
 pub mod SystemTexts
 pub mod WrittenPieces
+pub mod Taken

@@ -6,12 +6,13 @@ use Rattle.spectro_spec.specs.System.{System, Label}
 use Rattle.spectro_spec.specs.Formula.{Formula, Satisfies}
 use Rattle.spectro_spec.specs.Pricing.{price}
 use Rattle.spectro_io.specs.Shelves.{Texts}
+use Rattle.spectro_aut.specs.Laws.{SystemsAreOne, FirstFaultsAreOne, TextsHaveNoFault}
 use Rattle.spectro_aut.specs.Written.{text_of}
 use Rattle.spectro_hml.specs.Chain.{formula_of}
 use Rattle.spectro_hml.specs.Grammar.{IsPlainFormula}
 use Rattle.spectro.specs.declared.status.Status.{Status}
 use Rattle.spectro.specs.declared.status.Which.TheVariants.{Left}
-use Rattle.spectro.specs.Refusals.{IsTextOf, RefusesFormula}
+use Rattle.spectro.specs.Refusals.{RefusesFormula}
 use Rattle.spectro.specs.Commands.Eval.{EvalGives, SaysTruth, no_system, no_formula, answered, eval_text}
 use Rattle.spectro.specs.Commands.Rewrite as rewriting
 use Rattle.spectro.specs.Files.{FileOutcome}
@@ -54,17 +55,19 @@ one_of_file gives one_of_text None bytes more one other first second = record { 
 one_of_file gives one_of_text (Some text) bytes more one other first second = one_of_text text bytes more one other first second
 
 module _
-    (one_system : (text : List ℕ) (one other : System) → IsTextOf text one → IsTextOf text other → one ≡ other)
+    (one_system : SystemsAreOne)
+    (one_fault : FirstFaultsAreOne)
+    (no_fault : TextsHaveNoFault)
     (one_chain : (text : List ℕ) (one other : List Label) → IsPlainFormula text one → IsPlainFormula text other → one ≡ other)
   where
     one_answer : (formula text bytes more : List ℕ) (one other : Status) → EvalGives formula text one bytes → EvalGives formula text other more → AreSame one other bytes more
-    one_answer formula text bytes more one other (no_system first none) (no_system second none') = record { status = same_refusal Left text one other first second; output = none ∙ sym none' }
-    one_answer formula text bytes more one other (no_system first none) (no_formula system is second none') = absurd (refused_text Left text one system first is)
-    one_answer formula text bytes more one other (no_system first none) (answered system labels is is_formula done says) = absurd (refused_text Left text one system first is)
-    one_answer formula text bytes more one other (no_formula system is first none) (no_system second none') = absurd (refused_text Left text other system second is)
+    one_answer formula text bytes more one other (no_system first none) (no_system second none') = record { status = same_refusal one_fault Left text one other first second; output = none ∙ sym none' }
+    one_answer formula text bytes more one other (no_system first none) (no_formula system is second none') = absurd (refused_text no_fault Left text one system first is)
+    one_answer formula text bytes more one other (no_system first none) (answered system labels is is_formula done says) = absurd (refused_text no_fault Left text one system first is)
+    one_answer formula text bytes more one other (no_formula system is first none) (no_system second none') = absurd (refused_text no_fault Left text other system second is)
     one_answer formula text bytes more one other (no_formula system is first none) (no_formula system' is' second none') = record { status = same_fault formula one other first second; output = none ∙ sym none' }
     one_answer formula text bytes more one other (no_formula system is first none) (answered system' labels is' is_formula done says) = absurd (first.1.no_chain labels is_formula)
-    one_answer formula text bytes more one other (answered system labels is is_formula done says) (no_system second none') = absurd (refused_text Left text other system second is)
+    one_answer formula text bytes more one other (answered system labels is is_formula done says) (no_system second none') = absurd (refused_text no_fault Left text other system second is)
     one_answer formula text bytes more one other (answered system labels is is_formula done says) (no_formula system' is' second none') = absurd (second.1.no_chain labels is_formula)
     one_answer formula text bytes more one other (answered system labels is is_formula done says) (answered system' labels' is' is_formula' done' says') =
         let system_same : system' ≡ system = one_system text system' system is' is in
@@ -73,9 +76,9 @@ module _
         record { status = done ∙ sym done'; output = same_truth system (formula_of labels) bytes more says says_same }
 
     one_rewriting : (text bytes more : List ℕ) (one other : Status) → rewriting.RewriteGives text one bytes → rewriting.RewriteGives text other more → AreSame one other bytes more
-    one_rewriting text bytes more one other (rewriting.no_system first none) (rewriting.no_system second none') = record { status = same_refusal Left text one other first second; output = none ∙ sym none' }
-    one_rewriting text bytes more one other (rewriting.no_system first none) (rewriting.rewritten system is done says) = absurd (refused_text Left text one system first is)
-    one_rewriting text bytes more one other (rewriting.rewritten system is done says) (rewriting.no_system second none') = absurd (refused_text Left text other system second is)
+    one_rewriting text bytes more one other (rewriting.no_system first none) (rewriting.no_system second none') = record { status = same_refusal one_fault Left text one other first second; output = none ∙ sym none' }
+    one_rewriting text bytes more one other (rewriting.no_system first none) (rewriting.rewritten system is done says) = absurd (refused_text no_fault Left text one system first is)
+    one_rewriting text bytes more one other (rewriting.rewritten system is done says) (rewriting.no_system second none') = absurd (refused_text no_fault Left text other system second is)
     one_rewriting text bytes more one other (rewriting.rewritten system is done says) (rewriting.rewritten system' is' done' says') =
         record { status = done ∙ sym done'; output = says ∙ ap text_of (one_system text system system' is is') ∙ sym says' }
 

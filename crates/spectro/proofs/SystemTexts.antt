@@ -1,15 +1,18 @@
 -- The texts of systems: what is read of a text is accepted or refused just as the whole is.
-use Rattle.std.proofs.Common.{◌≡◌, ◌∙◌, ℕ, ◌<◌, List, take, length, sym, ap, subst, arith, length-take}
+use Rattle.std.proofs.Common.{◌≡◌, ◌∙◌, ℕ, ◌<◌, List, take, length, sym, ap, subst, arith, inl, inr}
+use Rattle.std.proofs.lemmas.Bool.{cases_lt}
 use Rattle.std.proofs.lemmas.List.{take_all}
 use Rattle.spectro_io.specs.Limits.{read_limit}
 use Rattle.spectro_spec.specs.System.{System}
+use Rattle.spectro_aut.specs.Faults.{IsFirstFault}
+use Rattle.spectro_aut.specs.Laws.{FirstFaultsAreOne, TextsHaveNoFault}
+use Rattle.spectro_aut.specs.declared.error.AutFault.{AutFault}
+use Rattle.spectro_aut.proofs.LongTexts.{fault_of_read_front, read_front_no_text}
 use Rattle.spectro.specs.declared.status.Status.{Status}
+use Rattle.spectro.specs.declared.status.Status.TheVariants.{BadText}
 use Rattle.spectro.specs.declared.status.Which.{Which}
+use Rattle.spectro.specs.declared.status.Kind.TheVariants as kinds
 use Rattle.spectro.specs.Refusals.{IsTextOf, RefusesSystem}
-
--- what is shorter than the limit is the whole text
-whole_text : (limit : ℕ) (text bytes : List ℕ) → bytes ≡ take limit text → length bytes < limit → bytes ≡ text
-whole_text limit text bytes front less = front ∙ take_all limit text (omega (arith, ap length front, length-take limit text))
 
 -- of a text that is shorter than the limit the whole is read
 front_text : (limit : ℕ) (text bytes : List ℕ) → bytes ≡ take limit text → length text < limit → bytes ≡ text
@@ -17,26 +20,27 @@ front_text limit text bytes front less = front ∙ take_all limit text (omega ar
 
 -- what is read is the text of a system, and no more stands behind it
 pub IsTextOf-whole : (text bytes : List ℕ) (system : System) → bytes ≡ take read_limit text → IsTextOf bytes system → IsTextOf text system
-unfolding read_limit
-IsTextOf-whole text bytes system front is = subst (λ t. IsTextOf t system) (whole_text read_limit text bytes front (let short = is.short in omega arith)) is
+IsTextOf-whole text bytes system front is = elim (cases_lt (length text) read_limit) [
+  | inl short ↦ subst (λ t. IsTextOf t system) (front_text read_limit text bytes front short) is
+  | inr long ↦ absurd (read_front_no_text text system (subst (λ t. IsTextOf t system) front is) long)
+]
+
+fault-whole : (text bytes : List ℕ) (fault : AutFault) → bytes ≡ take read_limit text → IsFirstFault bytes fault → IsFirstFault text fault
+fault-whole text bytes fault front is = elim (cases_lt (length text) read_limit) [
+  | inl short ↦ subst (λ t. IsFirstFault t fault) (front_text read_limit text bytes front short) is
+  | inr long ↦ fault_of_read_front text fault (subst (λ t. IsFirstFault t fault) front is) long
+]
 
 -- a text that is longer than is read is refused just as its front is
 pub RefusesSystem-whole : (which : Which) (text bytes : List ℕ) (status : Status) → bytes ≡ take read_limit text → RefusesSystem which bytes status → RefusesSystem which text status
-unfolding read_limit
-RefusesSystem-whole which text bytes status front refused =
-    (refused.0, record { line = refused.1.line; kind = refused.1.kind; no_system = λ system is. refused.1.no_system system (subst (λ t. IsTextOf t system) (sym (front_text read_limit text bytes front (let short = is.short in omega arith))) is) }, refused.2)
+RefusesSystem-whole which text bytes status front refused = (refused.0, fault-whole text bytes refused.0 front refused.1, refused.2)
 
 -- a text that is refused is of no system
-pub refused_text : (which : Which) (text : List ℕ) (status : Status) (system : System) → RefusesSystem which text status → IsTextOf text system → ⊥
-refused_text which text status system refused is = refused.1.no_system system is
+pub refused_text : TextsHaveNoFault → (which : Which) (text : List ℕ) (status : Status) (system : System) → RefusesSystem which text status → IsTextOf text system → ⊥
+refused_text no_fault which text status system refused is = no_fault text system refused.0 is refused.1
 
 -- a text is refused in one way
-pub same_refusal : (which : Which) (text : List ℕ) (one other : Status) → RefusesSystem which text one → RefusesSystem which text other → one ≡ other
-same_refusal which text one other first second =
-    let line = first.1.line in
-    let lines = second.1.line in
-    let kind = first.1.kind in
-    let kinds = second.1.kind in
-    let a = first.2 in
-    let b = second.2 in
-    cc
+pub same_refusal : FirstFaultsAreOne → (which : Which) (text : List ℕ) (one other : Status) → RefusesSystem which text one → RefusesSystem which text other → one ≡ other
+same_refusal one_fault which text one other first second =
+    let same : first.0 ≡ second.0 = one_fault text first.0 second.0 first.1 second.1 in
+    first.2 ∙ ap (λ (fault : AutFault). BadText (record { which = which; at = fault.line; kind = kinds.Aut fault.kind })) same ∙ sym second.2

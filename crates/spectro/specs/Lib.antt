@@ -1,3 +1,4 @@
+pub mod Feeds
 pub mod Words
 pub mod Asked
 pub mod Refusals

@@ -19,14 +19,22 @@ const CHOICE: &str = "des (0,2,2)\n(0,b,1)\n(0,c,1)\n";
 // After a, either b or c, as the first step decides.
 const EARLY_CHOICE: &str = "des (0, 4, 4)\n(0, a, 1)\n(0, a, 2)\n(1, b, 3)\n(2, c, 3)\n";
 
-// A label in quotes, which plain texts do not have.
-const QUOTED: &str = "des (0,1,2)\n(0,\"a\",1)\n";
+// Gates with values, in quotes and bare, with a CR before each LF and a blank line.
+const GATES: &str = "des(0,2,2)\r\n\r\n(0, \"PUT (1, \"x\")\", 1)\r\n(1, GET !1, 0)";
 
-const FILES: [(&str, &str); 4] = [
+// The second line is cut off.
+const CUT: &str = "des (0,1,2)\n(0,a";
+
+// The header promises a line more.
+const SHORT: &str = "des (0,3,2)\n(0,a,1)\n(0,b,1)\n";
+
+const FILES: [(&str, &str); 6] = [
     ("stopped.aut", STOPPED),
     ("choice.aut", CHOICE),
     ("early.aut", EARLY_CHOICE),
-    ("quoted.aut", QUOTED),
+    ("gates.aut", GATES),
+    ("cut.aut", CUT),
+    ("short.aut", SHORT),
 ];
 
 // How a run ended, and what it wrote.

@@ -4,7 +4,7 @@ ghost use Rattle.spectro.specs.declared.status.Status.{Status};
 ghost use Rattle.spectro.specs.Outcome.{IsOutcome};
 ghost use Rattle.spectro.specs.Words.{Word};
 
-use spectro_aut::one_system;
+use spectro_aut::{first_faults_are_one, systems_are_one, texts_have_no_fault};
 use spectro_hml::one_chain;
 
 /// The words and the texts have at most one outcome: one status, and one row of bytes.
@@ -12,6 +12,8 @@ pub fn one_outcome()
     ensures status { (words : List Word) (texts : Texts) (one other : Status) (bytes more : List ℕ) → IsOutcome words texts one bytes → IsOutcome words texts other more → one ≡ other }
     ensures bytes { (words : List Word) (texts : Texts) (one other : Status) (bytes more : List ℕ) → IsOutcome words texts one bytes → IsOutcome words texts other more → bytes ≡ more }
 {
-    one_system();
+    systems_are_one();
+    first_faults_are_one();
+    texts_have_no_fault();
     one_chain();
 }

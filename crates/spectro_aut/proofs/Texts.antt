@@ -1,74 +1,69 @@
--- What is read as a plain text is one, and each plain text is read.
-use Rattle.std.proofs.Common.{◌≡◌, ◌∙◌, ℕ, ◌<◌, ◌≤◌, Bool, true, false, cond, List, [], ◌++◌, length, refl, sym, ap, subst, arith}
-use Rattle.std.specs.Prelude.{Option, None, Some, nat_lt, nat_le}
-use Rattle.std.proofs.lemmas.Grind.{common_steps}
-use Rattle.spectro_spec.specs.System.{System, IsWhole}
-use Rattle.spectro_lts.specs.Labels.{labels_of}
-use Rattle.spectro_aut.specs.Grammar.{IsHeader, IsPlainText}
-use Rattle.spectro_aut.specs.Reading.{header_at, steps_at, is_within, system_at}
-use Rattle.spectro_aut.specs.declared.header.Header.{Header}
-use Rattle.spectro_io.proofs.Fronts.{bind_some}
-use Rattle.spectro_aut.proofs.Headers.{header_sound, header_complete}
-use Rattle.spectro_aut.proofs.Steps.{TakesSteps, steps_sound, steps_complete}
+-- What a text that has come byte by byte ends as is its system or its first fault.
+use Rattle.std.proofs.Common.{◌≡◌, ℕ, List, subst}
+use Rattle.std.specs.Prelude.{Result, Ok, Err, MatchResult, IfOk, IfErr}
+use Rattle.spectro_io.specs.Lines.{lines_of}
+use Rattle.spectro_spec.specs.System.{System}
+use Rattle.spectro_aut.specs.Grammar.{nothing_before, IsText}
+use Rattle.spectro_aut.specs.Faults.{IsFirstFault, IsRefused, at_line, at_end}
+use Rattle.spectro_aut.specs.Feeding.{Fed, nothing_fed, take_bytes, EndsAs, FailsBy, HasTaken}
+use Rattle.spectro_aut.specs.declared.error.AutError.{AutError}
+use Rattle.spectro_aut.specs.declared.error.AutError.TheVariants.{Text, OutOfMemory}
+use Rattle.spectro_aut.specs.declared.error.AutFault.{AutFault}
+use Rattle.spectro_aut.proofs.Judgements.{judged, FailBehind, fail_at_line, fail_at_end, judged_ok-sound, judged_err-sound, judged_ok-complete, judged_err-complete}
+use Rattle.spectro_aut.proofs.Feedings.{ends_as_judged, ends_once}
 
--- the system of a header, before its lines
-abbrev bare : Header → System
-bare header = record { states = header.states; initial = header.initial; steps = [] }
+-- the first fault of a text is that of its lines
+fault_of_lines : (text : List ℕ) (fault : AutFault) → IsFirstFault text fault → FailBehind nothing_before (lines_of text) fault
+fault_of_lines text fault (at_line front line rest before whole follow faulty at) = fail_at_line front line rest before whole follow faulty at
+fault_of_lines text fault (at_end after follow early at) = fail_at_end after follow early at
 
-bare_whole : (header : Header) → header.initial < header.states → IsWhole (bare header)
-bare_whole header initial = record {
-  initial = initial;
-  sources = λ place default within. absurd (omega arith);
-  targets = λ place default within. absurd (omega arith);
-}
+fault_of_text : (text : List ℕ) (fault : AutFault) → FailBehind nothing_before (lines_of text) fault → IsFirstFault text fault
+fault_of_text text fault (fail_at_line front line rest before whole follow faulty at) = at_line front line rest before whole follow faulty at
+fault_of_text text fault (fail_at_end after follow early at) = at_end after follow early at
 
--- a header within the limits, and the lines of its steps
-accepted : (text front : List ℕ) (header : Header) (rest : List ℕ) (system : System) → IsHeader front header.initial header.transitions header.states → text ≡ front ++ rest → is_within header (length text) ≡ true
-    → TakesSteps header.transitions (bare header) rest system → IsPlainText text system
-accepted text front header rest system is_header whole tests taken =
-    let transitions : header.transitions ≤ 1000000 = grind (arith, common_steps) in
-    let made : System = record { states = header.states; initial = header.initial; steps = taken.steps } in
-    subst (IsPlainText text) (sym {b = made} taken.same) (record {
-      header = front;
-      lines = rest;
-      whole = whole;
-      is_header = subst (λ count. IsHeader front header.initial count header.states) (sym taken.count_is) is_header;
-      are_lines = taken.are_lines;
-      is_whole = subst IsWhole taken.same taken.is_whole;
-      few_states = grind (arith, common_steps);
-      few_transitions = let count = taken.count_is in omega arith;
-      few_labels = subst (λ system. length (labels_of system.steps) ≤ 65536) taken.same taken.few_labels;
-      short = grind (arith, common_steps);
-    })
+pub ends_as_text : (text : List ℕ) (system : System) → EndsAs (take_bytes nothing_fed text) (Ok system) → IsText text system
+ends_as_text text system ends = judged_ok-sound (lines_of text) nothing_before system tt (ends_once (take_bytes nothing_fed text) _ _ (ends_as_judged text) ends)
 
--- the bare system keeps the limits of a header that does
-taken : (header : Header) (bytes : ℕ) (rest : List ℕ) (system : System) → is_within header bytes ≡ true → steps_at header.transitions (bare header) rest ≡ Some system → TakesSteps header.transitions (bare header) rest system
-taken header bytes rest system tests read =
-    let initial : header.initial < header.states = grind (arith, common_steps) in
-    steps_sound header.transitions (bare header) rest system (bare_whole header initial) (omega arith) read
+pub ends_as_fault : (text : List ℕ) (fault : AutFault) → EndsAs (take_bytes nothing_fed text) (Err fault) → IsFirstFault text fault
+ends_as_fault text fault ends = fault_of_text text fault (judged_err-sound (lines_of text) nothing_before fault tt (ends_once (take_bytes nothing_fed text) _ _ (ends_as_judged text) ends))
 
--- what the first case of a choice gave
-cond_true : {A : Type 0} (test : Bool) (x : Option A) (y : A) → cond test x None ≡ Some y → (test ≡ true) × (x ≡ Some y)
-cond_true true x y e = (refl, e)
-cond_true false x y e = cc
+-- a text ends as what it is
+text_judged : (text : List ℕ) (system : System) → IsText text system → judged nothing_before (lines_of text) ≡ Ok system
+text_judged text system is_text = judged_ok-complete (lines_of text) nothing_before system tt is_text
 
-pub text_sound : (text : List ℕ) (system : System) → system_at text ≡ Some system → IsPlainText text system
-unfolding system_at
-text_sound text system e =
-    let read = bind_some (header_at text) _ system e in
-    let header = read.0.0 in
-    let front = header_sound text header read.0.1 read.1 in
-    let made = cond_true (is_within header (length text)) (steps_at header.transitions (bare header) read.0.1) system read.2 in
-    accepted text front.0 header read.0.1 system front.1 front.2 made.0 (taken header (length text) read.0.1 system made.0 made.1)
+fault_judged : (text : List ℕ) (fault : AutFault) → IsFirstFault text fault → judged nothing_before (lines_of text) ≡ Err fault
+fault_judged text fault is_fault = judged_err-complete (lines_of text) nothing_before fault tt (fault_of_lines text fault is_fault)
 
-pub text_complete : (text : List ℕ) (system : System) → IsPlainText text system → system_at text ≡ Some system
-unfolding system_at
-text_complete text system plain =
-    let header : Header = record { initial = system.initial; transitions = length system.steps; states = system.states } in
-    let read : header_at text ≡ Some (header, plain.lines) = ap header_at plain.whole ∙ header_complete plain.header system.initial (length system.steps) system.states plain.lines plain.is_header in
-    let lines : steps_at (length system.steps) (bare header) plain.lines ≡ Some system = steps_complete system.steps (bare header) plain.lines plain.are_lines plain.is_whole plain.few_labels in
-    let states : nat_le system.states 65536 ≡ true = let few = plain.few_states in grind (arith, common_steps) in
-    let initial : nat_lt system.initial system.states ≡ true = let inside = plain.is_whole.initial in grind (arith, common_steps) in
-    let transitions : nat_le (length system.steps) 1000000 ≡ true = let few = plain.few_transitions in grind (arith, common_steps) in
-    let short : nat_le (length text) 67108864 ≡ true = let few = plain.short in grind (arith, common_steps) in
-    rw (read, states, initial, transitions, short) lines
+pub text_ends : (text : List ℕ) (system : System) → IsText text system → EndsAs (take_bytes nothing_fed text) (Ok system)
+text_ends text system is_text = rw (← text_judged text system is_text) (ends_as_judged text)
+
+pub fault_ends : (text : List ℕ) (fault : AutFault) → IsFirstFault text fault → EndsAs (take_bytes nothing_fed text) (Err fault)
+fault_ends text fault is_fault = rw (← fault_judged text fault is_fault) (ends_as_judged text)
+
+pub one_system : (text : List ℕ) (one other : System) → IsText text one → IsText text other → one ≡ other
+one_system text one other first second = let a = text_judged text one first in let b = text_judged text other second in cc
+
+pub one_fault : (text : List ℕ) (one other : AutFault) → IsFirstFault text one → IsFirstFault text other → one ≡ other
+one_fault text one other first second = let a = fault_judged text one first in let b = fault_judged text other second in cc
+
+pub no_fault_of_text : (text : List ℕ) (system : System) (fault : AutFault) → IsText text system → IsFirstFault text fault → ⊥
+no_fault_of_text text system fault is_text is_fault = let a = text_judged text system is_text in let b = fault_judged text fault is_fault in cc
+
+-- what was taken is the text that the answer speaks of
+pub finished_ok : (fed : Fed) (result : Result System AutError) → MatchResult result (λ system. EndsAs fed (Ok system)) (FailsBy (EndsAs fed)) → IfOk result (λ system. (taken : List ℕ) → HasTaken fed taken → IsText taken system)
+finished_ok fed (Ok system) ends = λ taken has. ends_as_text taken system (subst (λ fed. EndsAs fed (Ok system)) has ends)
+finished_ok fed (Err error) ends = tt
+
+pub finished_err : (fed : Fed) (result : Result System AutError) → MatchResult result (λ system. EndsAs fed (Ok system)) (FailsBy (EndsAs fed)) → IfErr result (λ error. (taken : List ℕ) → HasTaken fed taken → IsRefused taken error)
+finished_err fed (Ok system) ends = tt
+finished_err fed (Err (Text fault)) ends = λ taken has. ends_as_fault taken fault (subst (λ fed. EndsAs fed (Err fault)) has ends)
+finished_err fed (Err OutOfMemory) ends = λ taken has. tt
+
+-- what is said of all that was taken is said of this text
+pub told_ok : (fed : Fed) (text : List ℕ) (result : Result System AutError) → HasTaken fed text → IfOk result (λ system. (taken : List ℕ) → HasTaken fed taken → IsText taken system) → IfOk result (IsText text)
+told_ok fed text (Ok system) taken told = told text taken
+told_ok fed text (Err error) taken told = tt
+
+pub told_err : (fed : Fed) (text : List ℕ) (result : Result System AutError) → HasTaken fed text → IfErr result (λ error. (taken : List ℕ) → HasTaken fed taken → IsRefused taken error) → IfErr result (IsRefused text)
+told_err fed text (Ok system) taken told = tt
+told_err fed text (Err error) taken told = told text taken

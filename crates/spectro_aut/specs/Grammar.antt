@@ -1,61 +1,99 @@
--- Plain texts of systems: a header, and a line for each step.
-use Rattle.std.specs.Prelude.{ℕ, ◌≡◌, ◌≤◌, ◌⊎◌, List, [], ◌∷◌, ◌++◌, length, true, codes}
-use Rattle.spectro_io.specs.Numbers.{is_number, number_value}
-use Rattle.spectro_spec.specs.System.{System, Step, IsWhole}
+-- Aldebaran texts of systems: a header, and a line for each step. Lines of blanks alone count for nothing.
+use Rattle.std.specs.Prelude.{ℕ, ◌≡◌, ◌+◌, ◌<◌, ◌≤◌, true, false, List, [], ◌∷◌, ◌++◌, length, codes}
+use Rattle.std.specs.List.{list_all, list_any}
+use Rattle.std.specs.Str.{bytes_eq, IsUtf8}
+use Rattle.spectro_io.specs.Blanks.{is_blank, trimmed}
+use Rattle.spectro_io.specs.Lines.{first_line, lines_of}
+use Rattle.spectro_spec.specs.System.{System, Step}
 use Rattle.spectro_lts.specs.Labels.{labels_of}
-use Rattle.spectro_aut.specs.PlainLabels.{IsPlainLabel}
+use Rattle.spectro_aut.specs.Fields.{IsNumberField, IsLabelField}
 
--- one to seven digits
-pub record IsShortNumber (text : List ℕ) (number : ℕ) : Type 0 where
-  pub digits : is_number text ≡ true
-  pub short : length text ≤ 7
-  pub value : number ≡ number_value text
-
--- a comma, and one space or none
-abbrev pub IsComma : List ℕ → Type 0
-IsComma text = (text ≡ 44 ∷ []) ⊎ (text ≡ 44 ∷ 32 ∷ [])
-
--- des (INITIAL,TRANSITIONS,STATES) and LF
+-- des (INITIAL, TRANSITIONS, STATES), without blanks at its ends
 pub record IsHeader (text : List ℕ) (initial transitions states : ℕ) : Type 0 where
-  pub initial_text : List ℕ
-  pub first_comma : List ℕ
-  pub transitions_text : List ℕ
-  pub second_comma : List ℕ
-  pub states_text : List ℕ
-  pub whole : text ≡ codes "des (" ++ initial_text ++ first_comma ++ transitions_text ++ second_comma ++ states_text ++ 41 ∷ 10 ∷ []
-  pub is_initial : IsShortNumber initial_text initial
-  pub is_first_comma : IsComma first_comma
-  pub is_transitions : IsShortNumber transitions_text transitions
-  pub is_second_comma : IsComma second_comma
-  pub is_states : IsShortNumber states_text states
+  pub gap : List ℕ
+  pub first : List ℕ
+  pub second : List ℕ
+  pub third : List ℕ
+  pub whole : text ≡ codes "des" ++ gap ++ 40 ∷ first ++ 44 ∷ second ++ 44 ∷ third ++ 41 ∷ []
+  pub blanks : list_all is_blank gap ≡ true
+  pub is_initial : IsNumberField first initial
+  pub is_transitions : IsNumberField second transitions
+  pub is_states : IsNumberField third states
 
--- (SOURCE,LABEL,TARGET) and LF
-pub record IsLine (text : List ℕ) (step : Step) : Type 0 where
-  pub source_text : List ℕ
-  pub first_comma : List ℕ
-  pub second_comma : List ℕ
-  pub target_text : List ℕ
-  pub whole : text ≡ codes "(" ++ source_text ++ first_comma ++ step.label ++ second_comma ++ target_text ++ 41 ∷ 10 ∷ []
-  pub is_source : IsShortNumber source_text step.source
-  pub is_first_comma : IsComma first_comma
-  pub is_label : IsPlainLabel step.label
-  pub is_second_comma : IsComma second_comma
-  pub is_target : IsShortNumber target_text step.target
+-- (SOURCE, FIELD, TARGET), without blanks at its ends; the field may have commas of its own
+pub record IsTransition (text : List ℕ) (source : ℕ) (field : List ℕ) (target : ℕ) : Type 0 where
+  pub first : List ℕ
+  pub middle : List ℕ
+  pub last : List ℕ
+  pub whole : text ≡ 40 ∷ first ++ 44 ∷ middle ++ 44 ∷ last ++ 41 ∷ []
+  pub is_source : IsNumberField first source
+  pub is_field : field ≡ trimmed middle
+  pub is_target : IsNumberField last target
 
--- the lines of the steps, in order
-abbrev pub AreLines : List ℕ → List Step → Type 0
-AreLines text [] = text ≡ []
-AreLines text (step ∷ steps) = (line : List ℕ) × (rest : List ℕ) × (text ≡ line ++ rest) × IsLine line step × AreLines rest steps
+-- a transition whose field is of the step's label
+abbrev pub IsStepLine : List ℕ → Step → Type 0
+IsStepLine text step = (field : List ℕ) × IsTransition text step.source field step.target × IsLabelField field step.label
 
--- the text is a header and the lines of the steps, and keeps the limits
-pub record IsPlainText (text : List ℕ) (system : System) : Type 0 where
-  pub header : List ℕ
-  pub lines : List ℕ
-  pub whole : text ≡ header ++ lines
-  pub is_header : IsHeader header system.initial (length system.steps) system.states
-  pub are_lines : AreLines lines system.steps
-  pub is_whole : IsWhole system
-  pub few_states : system.states ≤ 65536
-  pub few_transitions : length system.steps ≤ 1000000
-  pub few_labels : length (labels_of system.steps) ≤ 65536
-  pub short : length text ≤ 67108864
+-- the header keeps the limits
+pub record IsWithinLimits (initial transitions states : ℕ) : Type 0 where
+  pub few_states : states ≤ 65536
+  pub few_transitions : transitions ≤ 1000000
+  pub in_range : initial < states
+
+-- both states of the step are among those of the system
+abbrev pub IsInRange : System → Step → Type 0
+IsInRange system step = (step.source < system.states) × (step.target < system.states)
+
+-- the step's label is new behind as many labels as there may be
+abbrev pub IsLabelTooMany : System → Step → Type 0
+IsLabelTooMany system step = (65536 ≤ length (labels_of system.steps)) × (list_any (λ other. bytes_eq step.label other.label) system.steps ≡ false)
+
+-- the system with the step behind the others
+abbrev pub with_step : System → Step → System
+with_step system step = record system { steps = system.steps ++ step ∷ [] }
+
+-- a system that has no steps so far
+abbrev pub without_steps : ℕ → ℕ → System
+without_steps initial states = record { states = states; initial = initial; steps = [] }
+
+-- what lines give: no header yet, or a header that promises so many transitions, and the system so far
+pub data Reading : Type 0 where
+  start : Reading
+  steps : ℕ → System → Reading
+
+-- what the lines so far have given, and the line after them, are this together
+pub data Gives (reading : Reading) (line : List ℕ) (next : Reading) : Type 0 where
+  skipped : trimmed line ≡ [] → next ≡ reading → Gives reading line next
+  header : (initial transitions states : ℕ) → reading ≡ start → IsHeader (trimmed line) initial transitions states → IsWithinLimits initial transitions states
+      → next ≡ steps transitions (without_steps initial states) → Gives reading line next
+  step : (transitions : ℕ) (system : System) (step : Step) → reading ≡ steps transitions system → IsStepLine (trimmed line) step
+      → length step.label ≤ 8192 → IsInRange system step → (IsLabelTooMany system step → ⊥) → length system.steps < transitions
+      → next ≡ steps transitions (with_step system step) → Gives reading line next
+
+-- what stands before a line: so many bytes, so many lines, and what these have given
+pub record Before : Type 0 where
+  pub bytes : ℕ
+  pub lines : ℕ
+  pub reading : Reading
+
+abbrev pub nothing_before : Before
+nothing_before = record { bytes = 0; lines = 0; reading = start }
+
+-- the line, with its line end, is short enough, and ends within the bytes that a text may have
+pub record IsFit (bytes : ℕ) (line : List ℕ) : Type 0 where
+  pub short : length (first_line line) ≤ 32768
+  pub within : bytes + length line ≤ 67108864
+
+-- what stands behind the line that gave this
+abbrev pub behind : Before → List ℕ → Reading → Before
+behind before line reading = record { bytes = before.bytes + length line; lines = before.lines + 1; reading = reading }
+
+-- none of the lines has a fault, and this stands behind them
+abbrev pub Follow : Before → List (List ℕ) → Before → Type 0
+Follow before [] after = after ≡ before
+Follow before (line ∷ lines) after =
+    (reading : Reading) × IsFit before.bytes line × IsUtf8 (first_line line) × Gives before.reading (first_line line) reading × Follow (behind before line reading) lines after
+
+-- the lines of the text have no fault, and give the system with as many steps as the header says
+abbrev pub IsText : List ℕ → System → Type 0
+IsText text system = (after : Before) × Follow nothing_before (lines_of text) after × (after.reading ≡ steps (length system.steps) system)

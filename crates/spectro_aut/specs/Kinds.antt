@@ -1,7 +1,7 @@
 -- The names of the kinds of faults.
 use Rattle.std.specs.Prelude.{ℕ, List, codes}
 use Rattle.spectro_aut.specs.declared.error.AutKind.{AutKind}
-use Rattle.spectro_aut.specs.declared.error.AutKind.TheVariants.{NotText, NoHeader, BadHeader, TooManyStates, TooManyTransitions, NoState, BadInitial, BadLine, BadLabel, LabelTooLong, StateRange, TooManyLabels, ExtraLine, MissingLines, TooLong, NotPlain}
+use Rattle.spectro_aut.specs.declared.error.AutKind.TheVariants.{NotText, NoHeader, BadHeader, TooManyStates, TooManyTransitions, NoState, BadInitial, BadLine, BadLabel, LabelTooLong, StateRange, TooManyLabels, ExtraLine, MissingLines, TooLong}
 
 abbrev pub kind_name : AutKind → List ℕ
 kind_name NotText = codes "NotText"
@@ -19,4 +19,3 @@ kind_name TooManyLabels = codes "TooManyLabels"
 kind_name ExtraLine = codes "ExtraLine"
 kind_name (MissingLines said found) = codes "MissingLines"
 kind_name TooLong = codes "TooLong"
-kind_name NotPlain = codes "NotPlain"

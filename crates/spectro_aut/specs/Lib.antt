@@ -1,6 +1,10 @@
 pub mod Kinds
-pub mod PlainLabels
+pub mod Fields
 pub mod Grammar
 pub mod Faults
 pub mod Reading
+pub mod Readings
+pub mod Feeding
+pub mod Laws
 pub mod Written
+pub mod RoundTrip

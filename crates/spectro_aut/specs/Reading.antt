@@ -1,83 +1,151 @@
--- Plain texts from left to right: what stands at the front of a text, and what is left after it.
-use Rattle.std.specs.Prelude.{ℕ, zero, suc, ◌^◌, ◌&&◌, Bool, true, false, nat_lt, nat_le, List, [], ◌∷◌, ◌++◌, length, take, drop, Option, None, Some, codes, if◌then◌else◌, unwrap_or}
-use Rattle.std.specs.Char.{is_ascii_digit}
-use Rattle.std.specs.List.{prefix_len}
+-- What a line gives, found from left to right.
+use Rattle.std.specs.Prelude.{ℕ, ◌+◌, ◌==◌, ◌&&◌, ◌||◌, not, Bool, true, false, nat_lt, nat_le, List, [], ◌∷◌, length, take, drop, reverse, position, Option, None, Some, Result, Ok, Err, codes, if◌then◌else◌}
+use Rattle.std.specs.List.{list_any}
+use Rattle.std.specs.Option.{option_map}
+use Rattle.std.specs.Str.{bytes_eq, is_utf8}
+use Rattle.spectro_io.specs.Blanks.{skip_blanks, trimmed}
 use Rattle.spectro_io.specs.Fronts.{◌>>=◌, after}
 use Rattle.spectro_io.specs.Numbers.{number_of}
 use Rattle.spectro_spec.specs.System.{System, Step}
 use Rattle.spectro_lts.specs.Labels.{labels_of}
-use Rattle.spectro_aut.specs.PlainLabels.{plain_label_at}
+use Rattle.spectro_aut.specs.Grammar.{Reading, start, steps, with_step, without_steps}
+use Rattle.spectro_aut.specs.declared.error.AutKind.{AutKind}
+use Rattle.spectro_aut.specs.declared.error.AutKind.TheVariants.{NotText, NoHeader, BadHeader, TooManyStates, TooManyTransitions, NoState, BadInitial, BadLine, BadLabel, LabelTooLong, StateRange, TooManyLabels, ExtraLine, MissingLines, TooLong}
 use Rattle.spectro_aut.specs.declared.header.Header.{Header}
 
--- what is left after a comma, and after a space behind it
-unfoldable pub comma_at : List ℕ → Option (List ℕ)
-comma_at text = do
-  rest ← after (44 ∷ []) text
-  Some (unwrap_or (after (32 ∷ []) rest) rest)
+-- what is left before the byte, where the text ends with it
+abbrev pub before_last : ℕ → List ℕ → Option (List ℕ)
+before_last byte text = option_map reverse (after (byte ∷ []) (reverse text))
 
--- how many digits stand at the front
-abbrev pub digit_count : List ℕ → ℕ
-digit_count text = prefix_len is_ascii_digit text
+-- what stands before and after the first such byte
+unfoldable pub first_split : ℕ → List ℕ → Option (List ℕ × List ℕ)
+first_split sought text = option_map (λ place. (take place text, drop (place + 1) text)) (position (λ byte. byte == sought) text)
 
--- a number of one to seven digits
-unfoldable pub number_at : List ℕ → Option (ℕ × List ℕ)
-number_at text = if nat_lt 7 (digit_count text) then None else (do
-  value ← number_of (take (digit_count text) text)
-  if nat_lt value (2 ^ 32) then Some (value, drop (digit_count text) text) else None)
+-- what stands before and after the last such byte
+unfoldable pub last_split : ℕ → List ℕ → Option (List ℕ × List ℕ)
+last_split sought text = option_map (λ parts. (reverse parts.1, reverse parts.0)) (first_split sought (reverse text))
 
--- a header
-unfoldable pub header_at : List ℕ → Option (Header × List ℕ)
-header_at text = do
-  opened ← after (codes "des (") text
-  initial ← number_at opened
-  first ← comma_at initial.1
-  transitions ← number_at first
-  second ← comma_at transitions.1
-  states ← number_at second
-  rest ← after (41 ∷ 10 ∷ []) states.1
-  Some (record { initial = initial.0; transitions = transitions.0; states = states.0 }, rest)
+-- the number of a field, or the greatest of 64 bits where it is greater
+abbrev pub field_number : List ℕ → Option ℕ
+field_number text = number_of (trimmed text)
 
--- the step of a line
-unfoldable pub line_at : List ℕ → Option (Step × List ℕ)
-line_at text = do
-  opened ← after (codes "(") text
-  source ← number_at opened
-  first ← comma_at source.1
-  label ← plain_label_at first
-  second ← comma_at label.1
-  target ← number_at second
-  rest ← after (41 ∷ 10 ∷ []) target.1
-  Some (record { source = source.0; label = label.0; target = target.0 }, rest)
+-- the numbers of a header, from what stands behind `des`
+unfoldable pub header_of : List ℕ → Option Header
+header_of rest = do
+  opened ← after (40 ∷ []) (skip_blanks rest)
+  fields ← before_last 41 opened
+  first ← first_split 44 fields
+  second ← first_split 44 first.1
+  initial ← field_number first.0
+  transitions ← field_number second.0
+  states ← field_number second.1
+  Some (record { initial = initial; transitions = transitions; states = states })
 
--- the system with a step more
-abbrev pub with_step : System → Step → System
-with_step system step = record system { steps = system.steps ++ step ∷ [] }
+pub record Transition : Type 0 where
+  pub source : ℕ
+  pub field : List ℕ
+  pub target : ℕ
 
--- the system with the step of the line at the front, if its states are among those of the system and its label is not one too many
-unfoldable pub step_at : System → List ℕ → Option (System × List ℕ)
-step_at system text = do
-  read ← line_at text
-  if nat_lt read.0.source system.states && nat_lt read.0.target system.states && nat_le (length (labels_of (system.steps ++ read.0 ∷ []))) 65536
-      then Some (with_step system read.0, read.1) else None
+-- the numbers and the label field of a transition
+unfoldable pub transition_of : List ℕ → Option Transition
+transition_of text = do
+  opened ← after (40 ∷ []) text
+  fields ← before_last 41 opened
+  first ← first_split 44 fields
+  last ← last_split 44 first.1
+  source ← field_number first.0
+  target ← field_number last.1
+  Some (record { source = source; field = trimmed last.0; target = target })
+
+-- the bytes, where they are UTF-8
+abbrev pub utf8_of : List ℕ → Option (List ℕ)
+utf8_of bytes = if is_utf8 bytes then Some bytes else None
+
+-- what is left of the bytes between two quotes
+abbrev pub unquoted : List ℕ → Option (List ℕ)
+unquoted field = do
+  rest ← after (34 ∷ []) field
+  before_last 34 rest
+
+-- the field is not empty and has no quote
+abbrev pub is_bare : List ℕ → Bool
+is_bare field = nat_lt 0 (length field) && not (list_any (λ byte. byte == 34) field)
+
+-- the label of a field
+unfoldable pub label_of : List ℕ → Option (List ℕ)
+label_of field = if is_bare field then utf8_of field else (do
+  label ← unquoted field
+  utf8_of label)
+
+-- the header, if it keeps the limits
+abbrev pub header_within : Header → Result Header AutKind
+header_within header =
+    if nat_lt 65536 header.states then Err TooManyStates
+    else (if nat_lt 1000000 header.transitions then Err TooManyTransitions
+    else (if header.states == 0 then Err NoState
+    else (if nat_le header.states header.initial then Err BadInitial
+    else Ok header)))
+
+abbrev pub header_read : Option Header → Result Header AutKind
+header_read None = Err BadHeader
+header_read (Some header) = header_within header
+
+abbrev pub header_begun : Option (List ℕ) → Result Header AutKind
+header_begun None = Err NoHeader
+header_begun (Some rest) = header_read (header_of rest)
+
+-- the header that the trimmed line is, or its fault
+unfoldable pub header_in : List ℕ → Result Header AutKind
+header_in text = header_begun (after (codes "des") text)
+
+-- the step, if it may follow those of the system, of which there may be so many
+abbrev pub step_within : ℕ → System → Step → Result Step AutKind
+step_within transitions system step =
+    if nat_lt 8192 (length step.label) then Err LabelTooLong
+    else (if nat_le system.states step.source || nat_le system.states step.target then Err StateRange
+    else (if nat_le 65536 (length (labels_of system.steps)) && not (list_any (λ other. bytes_eq step.label other.label) system.steps) then Err TooManyLabels
+    else (if nat_le transitions (length system.steps) then Err ExtraLine
+    else Ok step)))
+
+abbrev pub label_read : ℕ → System → Transition → Option (List ℕ) → Result Step AutKind
+label_read transitions system transition None = Err BadLabel
+label_read transitions system transition (Some label) = step_within transitions system (record { source = transition.source; label = label; target = transition.target })
+
+abbrev pub transition_read : ℕ → System → Option Transition → Result Step AutKind
+transition_read transitions system None = Err BadLine
+transition_read transitions system (Some transition) = label_read transitions system transition (label_of transition.field)
+
+-- the step that the trimmed line is, or its fault
+unfoldable pub step_in : ℕ → System → List ℕ → Result Step AutKind
+step_in transitions system text = transition_read transitions system (transition_of text)
+
+abbrev pub started : Result Header AutKind → Result Reading AutKind
+started (Ok header) = Ok (steps header.transitions (without_steps header.initial header.states))
+started (Err kind) = Err kind
+
+abbrev pub stepped : ℕ → System → Result Step AutKind → Result Reading AutKind
+stepped transitions system (Ok step) = Ok (steps transitions (with_step system step))
+stepped transitions system (Err kind) = Err kind
+
+-- what a trimmed line that is not empty gives behind the others
+abbrev pub line_read : Reading → List ℕ → Result Reading AutKind
+line_read start text = started (header_in text)
+line_read (steps transitions system) text = stepped transitions system (step_in transitions system text)
 
 -- whether the text is empty
 abbrev pub is_nil : List ℕ → Bool
 is_nil [] = true
 is_nil (byte ∷ bytes) = false
 
--- the system with the steps of so many lines, which are all of the text
-unfoldable pub steps_at : ℕ → System → List ℕ → Option System
-steps_at zero system text = if is_nil text then Some system else None
-steps_at (suc count) system text = do
-  read ← step_at system text
-  steps_at count read.0 read.1
+-- what a line without its line end gives behind the others, or its fault
+unfoldable pub line_given : Reading → List ℕ → Result Reading AutKind
+line_given reading line =
+    if nat_lt 32768 (length line) then Err TooLong
+    else (if not (is_utf8 line) then Err NotText
+    else (if is_nil (trimmed line) then Ok reading
+    else line_read reading (trimmed line)))
 
--- whether the header of a text of so many bytes keeps the limits
-abbrev pub is_within : Header → ℕ → Bool
-is_within header bytes = nat_le header.states 65536 && nat_lt header.initial header.states && nat_le header.transitions 1000000 && nat_le bytes 67108864
-
--- the system of a text
-unfoldable pub system_at : List ℕ → Option System
-system_at text = do
-  read ← header_at text
-  if is_within read.0 (length text) then steps_at read.0.transitions (record { states = read.0.states; initial = read.0.initial; steps = [] }) read.1 else None
+-- the system of the lines, if there are as many steps as the header says; or else the fault of the text's end
+abbrev pub ended_reading : Reading → Result System AutKind
+ended_reading start = Err NoHeader
+ended_reading (steps transitions system) = if nat_lt (length system.steps) transitions then Err (MissingLines transitions (length system.steps)) else Ok system

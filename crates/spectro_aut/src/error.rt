@@ -1,6 +1,8 @@
 ghost use Rattle.std.specs.Prelude.{◌≡◌};
 ghost use Rattle.spectro_aut.specs.Kinds.{kind_name};
+ghost use Rattle.spectro_aut.specs.declared.error.AutError.TheVariants.{OutOfMemory};
 
+use std::alloc::AllocError;
 use std::fmt;
 use thiserror::Error;
 
@@ -13,6 +15,14 @@ pub enum AutError {
     /// Nothing is said of the text.
     #[error("out of memory")]
     OutOfMemory,
+}
+
+impl From<AllocError> for AutError {
+    ghost from_gives = { λ _ error. error ≡ OutOfMemory };
+
+    fn from(_error: AllocError) -> AutError {
+        AutError::OutOfMemory
+    }
 }
 
 /// The first faulty line, counted from 1, and its fault.
@@ -55,8 +65,6 @@ pub enum AutKind {
     MissingLines { said: u32, found: u32 },
     /// The line has more than 32,768 bytes without its line end, or the text has more than 67,108,864 with it.
     TooLong,
-    /// The text is no plain text.
-    NotPlain,
 }
 
 impl AutKind {
@@ -80,7 +88,6 @@ impl AutKind {
             AutKind::ExtraLine => "ExtraLine",
             AutKind::MissingLines { .. } => "MissingLines",
             AutKind::TooLong => "TooLong",
-            AutKind::NotPlain => "NotPlain",
         }
     }
 }

@@ -1,37 +1,54 @@
-ghost use Rattle.std.specs.Prelude.{◌≡◌, ◌≤◌, length};
+ghost use Rattle.std.specs.Prelude.{◌≡◌, ◌==◌, ◌<◌, length, position, reverse, IfSome};
 ghost use Rattle.std.specs.Option.{option_map};
-ghost use Rattle.spectro_aut.specs.Reading.{comma_at, digit_count, number_at};
+ghost use Rattle.spectro_aut.specs.Reading.{before_last, field_number, first_split, last_split};
 
-use spectro_io::number;
+use spectro_io::{number, trim};
 
-const MAX_DIGITS: usize = 7;
-
-/// What stands after a comma, and after one space behind it.
-#[tactic(auto, unfolding(crate::specs::Reading::comma_at))]
-pub(crate) fn comma_at(text: &[u8]) -> Option<&[u8]>
-    ensures { option_map (λ rest. rest.now) result ≡ comma_at text.now }
+/// The value of the digits between blanks, or the greatest `u64` where it is greater.
+pub(crate) fn field_number(text: &[u8]) -> Option<u64>
+    ensures { result ≡ field_number text.now }
 {
-    let rest = text.strip_prefix(b",")?;
-    Some(rest.strip_prefix(b" ").unwrap_or(rest))
+    number(trim(text))
 }
 
-/// A number of one to seven digits, and what stands after them.
-#[tactic(auto, unfolding(crate::specs::Reading::number_at))]
-pub(crate) fn number_at(text: &[u8]) -> Option<(u32, &[u8])>
-    ensures { option_map (λ read. (read.0, read.1.now)) result ≡ number_at text.now }
+/// What stands before the byte at the end.
+pub(crate) fn before_last(byte: u8, text: &[u8]) -> Option<&[u8]>
+    ensures { option_map (λ front. front.now) result ≡ before_last byte text.now }
 {
-    let count = digit_count(text);
-    if count > MAX_DIGITS {
-        return None;
+    match text {
+        [front @ .., last] if *last == byte => Some(front),
+        _ => None,
     }
-    let (digits, rest) = text.split_at(count);
-    let value = u32::try_from(number(digits)?).ok()?;
-    Some((value, rest))
 }
 
-fn digit_count(text: &[u8]) -> usize
-    ensures count { result ≡ digit_count text.now }
-    ensures within { result ≤ length text.now }
+fn first_place(text: &[u8], sought: u8) -> Option<usize>
+    ensures { result ≡ position (λ byte. byte == sought) text.now }
 {
-    text.iter().take_while(|byte| byte.is_ascii_digit()).count()
+    text.iter().position(|byte| *byte == sought)
+}
+
+/// What stands before and after the first such byte.
+#[tactic(auto, unfolding(crate::specs::Reading::first_split))]
+pub(crate) fn split_at_first(text: &[u8], sought: u8) -> Option<(&[u8], &[u8])>
+    ensures { option_map (λ parts. (parts.0.now, parts.1.now)) result ≡ first_split sought text.now }
+{
+    let place = first_place(text, sought)?;
+    Some((&text[..place], &text[place + 1..]))
+}
+
+fn last_place(text: &[u8], sought: u8) -> Option<usize>
+    ensures place { result ≡ position (λ byte. byte == sought) (reverse text.now) }
+    ensures within { IfSome result (λ place. place < length text.now) }
+{
+    text.iter().rev().position(|byte| *byte == sought)
+}
+
+/// What stands before and after the last such byte.
+#[tactic(auto, unfolding(crate::specs::Reading::last_split))]
+pub(crate) fn split_at_last(text: &[u8], sought: u8) -> Option<(&[u8], &[u8])>
+    ensures { option_map (λ parts. (parts.0.now, parts.1.now)) result ≡ last_split sought text.now }
+{
+    let behind = last_place(text, sought)?;
+    let place = text.len() - 1 - behind;
+    Some((&text[..place], &text[place + 1..]))
 }

@@ -1,17 +1,21 @@
-//! Plain texts that are read as systems.
+//! Aldebaran texts that are read as systems, whole or in pieces, and systems that are written as such texts.
 #![tactic(auto)]
 
 mod error;
+mod feed;
 mod fields;
 mod header;
-mod line;
-mod plain_label;
+mod laws;
 mod reader;
-mod unique;
+mod reading;
+mod transition;
 mod writer;
 
 pub use error::{AutError, AutFault, AutKind};
-pub use plain_label::plain_label_at;
+pub use feed::Feed;
+pub use laws::{
+    faults_of_fronts_stay, first_faults_are_one, long_fronts_are_no_texts, systems_are_one,
+    texts_are_short, texts_have_no_fault, written_texts_are_read,
+};
 pub use reader::read;
-pub use unique::one_system;
 pub use writer::write;

@@ -1,3 +1,4 @@
+pub mod PlainLabelLaws
 pub mod Prices
 pub mod Truths
 pub mod Rows

@@ -3,8 +3,8 @@ use Rattle.std.proofs.Common.{◌≡◌, ◌∙◌, ◌⊎◌, inl, inr, ℕ, �
 use Rattle.std.specs.Prelude.{Some, None, All}
 use Rattle.std.proofs.lemmas.List.Elements.{All-nil, All-push, All-head, All-tail}
 use Rattle.spectro_spec.specs.System.{Label}
-use Rattle.spectro_aut.specs.PlainLabels.{IsPlainLabel, plain_label_at}
-use Rattle.spectro_aut.proofs.PlainLabelLaws.{plain_label_sound, plain_label_complete}
+use Rattle.spectro_hml.specs.PlainLabels.{IsPlainLabel, plain_label_at}
+use Rattle.spectro_hml.proofs.PlainLabelLaws.{plain_label_sound, plain_label_complete}
 use Rattle.spectro_hml.specs.Grammar.{IsPlainFormula, observation_text, row_text}
 use Rattle.spectro_io.specs.Fronts.{after}
 use Rattle.std.proofs.lemmas.Option.{same_Some}

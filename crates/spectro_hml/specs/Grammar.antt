@@ -1,7 +1,7 @@
 -- Plain formula texts: a row of observations, and then `tt`.
 use Rattle.std.specs.Prelude.{ℕ, ◌≡◌, ◌≤◌, List, [], ◌∷◌, ◌++◌, length, All, codes}
 use Rattle.spectro_spec.specs.System.{Label}
-use Rattle.spectro_aut.specs.PlainLabels.{IsPlainLabel}
+use Rattle.spectro_hml.specs.PlainLabels.{IsPlainLabel}
 
 -- <"LABEL">
 abbrev pub observation_text : Label → List ℕ

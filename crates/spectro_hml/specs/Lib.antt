@@ -1,3 +1,4 @@
+pub mod PlainLabels
 pub mod Chain
 pub mod Faults
 pub mod Grammar

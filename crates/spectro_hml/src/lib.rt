@@ -3,6 +3,7 @@
 
 mod chain;
 mod error;
+mod plain_label;
 mod reader;
 mod truth;
 mod unique;

@@ -5,8 +5,8 @@ ghost use Rattle.spectro_hml.specs.Faults.{IsRefused};
 ghost use Rattle.spectro_hml.specs.Grammar.{IsPlainFormula};
 ghost use Rattle.spectro_hml.specs.Reading.{observation_at};
 
+use crate::plain_label::plain_label_at;
 use crate::{Chain, ParseError, TextFault, TextKind};
-use spectro_aut::plain_label_at;
 use std::alloc::{AllocError, Global};
 
 /// How many observations a plain formula has at most.

@@ -76,11 +76,18 @@ fn write_sources(lts: &Lts, label: &str, table: &[bool], before: &mut [bool])
 mod tests {
     use super::*;
     use crate::parse_plain;
-    use spectro_aut::read;
-    use std::alloc::Global;
+    use spectro_lts::Draft;
+    use std::alloc::{AllocError, Global};
 
     // Two equal steps under `a`, of which neither goes on, before one to a state that goes on by `b`.
-    const DEAD_ENDS: &[u8] = b"des (0,4,4)\n(0,a,1)\n(0,a,1)\n(0,a,2)\n(2,b,3)\n";
+    fn dead_ends(alloc: Global) -> Result<Lts, AllocError> {
+        let mut draft = Draft::new(alloc, 4, 0)?;
+        draft.add(0, "a", 1)?;
+        draft.add(0, "a", 1)?;
+        draft.add(0, "a", 2)?;
+        draft.add(2, "b", 3)?;
+        draft.finish()
+    }
 
     #[test]
     fn follows_each_matching_step(rt: HostRuntime) {
@@ -104,7 +111,7 @@ mod tests {
 
     // Whether the formula is true at the state, where there is memory.
     fn truth(alloc: Global, formula: &str, state: u32) -> Option<bool> {
-        let lts = read(alloc, DEAD_ENDS).ok()?;
+        let lts = dead_ends(alloc).ok()?;
         let chain = parse_plain(alloc, formula).ok()?;
         if state < lts.states() {
             Some(chain_truth(&lts, &chain, state))

@@ -28,7 +28,8 @@ pub fn number(bytes: &[u8]) -> Option<u64>
     Some(value)
 }
 
-fn trim_start(bytes: &[u8]) -> &[u8]
+/// The bytes from the first that is no space and no tab.
+pub fn trim_start(bytes: &[u8]) -> &[u8]
     ensures { result.now ≡ skip_blanks bytes.now }
 {
     let mut rest = bytes;

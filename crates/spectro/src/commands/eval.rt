@@ -1,5 +1,6 @@
-ghost use Rattle.std.specs.Prelude.{◌≡◌, Some, IfOk, IfErr, IfSome, string_bytes};
+ghost use Rattle.std.specs.Prelude.{◌≡◌, ℕ, List, Some, IfOk, IfErr, IfSome, string_bytes};
 ghost use Rattle.spectro_energy.specs.Energy.{price_of};
+ghost use Rattle.spectro_aut.specs.Feeding.{HasTaken};
 ghost use Rattle.spectro.specs.Causes.{HasCauses, OrMemory};
 ghost use Rattle.spectro.specs.Commands.Eval.{EvalGives, eval_text};
 ghost use Rattle.spectro.specs.Files.{Refuses};
@@ -8,7 +9,8 @@ ghost use Rattle.spectro.specs.Words as words;
 
 use crate::output::write_output;
 use crate::status::{Status, Which};
-use crate::texts::{read_formula, read_system, read_text};
+use crate::texts::{read_formula, read_system, take_text};
+use spectro_aut::Feed;
 use spectro_energy::Energy;
 use spectro_hml::{chain_price, chain_truth};
 use spectro_io::{Shelf, Sink};
@@ -33,11 +35,11 @@ fn eval_text(alloc: Global, truth: bool, price: Energy) -> Result<String, AllocE
 }
 
 // What is to be written for these texts, or why nothing is.
-fn evaluate(alloc: Global, formula: &str, bytes: &[u8]) -> Result<String, Status>
-    ensures ok { IfOk result (λ text. EvalGives formula.now bytes.now Status.Done (string_bytes text)) }
-    ensures refused { IfErr result (OrMemory (Refuses (EvalGives formula.now) bytes.now)) }
+fn evaluate(alloc: Global, formula: &str, feed: Feed) -> Result<String, Status>
+    ensures ok { IfOk result (λ text. (bytes : List ℕ) → HasTaken feed bytes → EvalGives formula.now bytes Status.Done (string_bytes text)) }
+    ensures refused { IfErr result (λ status. (bytes : List ℕ) → HasTaken feed bytes → OrMemory (Refuses (EvalGives formula.now) bytes) status) }
 {
-    let lts = read_system(alloc, bytes, Which::Left)?;
+    let lts = read_system(feed, Which::Left)?;
     let chain = read_formula(alloc, formula)?;
     let truth = chain_truth(&lts, &chain, lts.initial());
     let text = eval_text(alloc, truth, chain_price(&chain))?;
@@ -57,8 +59,8 @@ pub fn eval<H: Shelf, O: Sink>(
     ensures silent { IsSilent result out.old out.new }
     ensures texts { H.texts shelf.new ≡ H.texts shelf.old }
 {
-    match read_text(alloc, file, shelf) {
-        Ok(bytes) => match evaluate(alloc, formula, &bytes) {
+    match take_text(alloc, file, shelf) {
+        Ok(feed) => match evaluate(alloc, formula, feed) {
             Ok(text) => write_output(text.as_str(), out),
             Err(status) => status,
         },

@@ -30,8 +30,8 @@ fn runs_with_ample_memory(rt: HostRuntime) -> Result<(), Fail> {
 fn refuses_the_file_before_the_formula(rt: HostRuntime) -> Result<(), Fail> {
     let no_system = Status::BadText(BadText {
         which: Which::Left,
-        at: 1,
-        kind: Kind::Aut(AutKind::NotPlain),
+        at: 2,
+        kind: Kind::Aut(AutKind::BadLine),
     });
     let no_formula = Status::BadText(BadText {
         which: Which::Formula,
@@ -39,9 +39,9 @@ fn refuses_the_file_before_the_formula(rt: HostRuntime) -> Result<(), Fail> {
         kind: Kind::Formula(TextKind::NotPlain),
     });
     let rows: [(&[&str], Status, u8); 7] = [
-        (&["eval", "tt", "quoted.aut"], no_system, 3),
+        (&["eval", "tt", "cut.aut"], no_system, 3),
         (&["eval", "and{}", "stopped.aut"], no_formula, 3),
-        (&["eval", "and{}", "quoted.aut"], no_system, 3),
+        (&["eval", "and{}", "cut.aut"], no_system, 3),
         (&["eval", "and{}", "nothing.aut"], Status::ReadFault, 5),
         (&[], Status::Usage, 2),
         (&["eval", "tt"], Status::Usage, 2),

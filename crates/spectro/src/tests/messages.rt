@@ -16,9 +16,9 @@ fn a_run_tells_how_it_ended(rt: HostRuntime) -> Result<(), Fail> {
             "spectro: cannot read\n",
         ),
         (
-            &["eval", "tt", "quoted.aut"],
+            &["eval", "tt", "cut.aut"],
             &[],
-            "spectro: quoted.aut:1: NotPlain\n",
+            "spectro: cut.aut:2: BadLine\n",
         ),
         (
             &["eval", "and{}", "stopped.aut"],

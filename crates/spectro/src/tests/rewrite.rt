@@ -15,6 +15,10 @@ fn writes_the_steps_in_their_order(rt: HostRuntime) -> Result<(), Fail> {
             "early.aut",
             "des (0, 4, 4)\n(0, \"a\", 1)\n(0, \"a\", 2)\n(1, \"b\", 3)\n(2, \"c\", 3)\n",
         ),
+        (
+            "gates.aut",
+            "des (0, 2, 2)\n(0, \"PUT (1, \"x\")\", 1)\n(1, \"GET !1\", 0)\n",
+        ),
     ];
     for (file, output) in rows {
         let run = run_words(rt.alloc(), &["rewrite", file], &[], &[], &[])?;
@@ -25,18 +29,26 @@ fn writes_the_steps_in_their_order(rt: HostRuntime) -> Result<(), Fail> {
     Ok(())
 }
 
+fn refused(at: u64, kind: AutKind) -> Status {
+    Status::BadText(BadText {
+        which: Which::Left,
+        at,
+        kind: Kind::Aut(kind),
+    })
+}
+
 #[test]
 fn writes_nothing_of_a_file_that_is_refused(rt: HostRuntime) -> Result<(), Fail> {
-    let no_system = Status::BadText(BadText {
-        which: Which::Left,
-        at: 1,
-        kind: Kind::Aut(AutKind::NotPlain),
-    });
-    let rows: [(&[&str], Status, &str); 3] = [
+    let rows: [(&[&str], Status, &str); 4] = [
         (
-            &["rewrite", "quoted.aut"],
-            no_system,
-            "spectro: quoted.aut:1: NotPlain\n",
+            &["rewrite", "cut.aut"],
+            refused(2, AutKind::BadLine),
+            "spectro: cut.aut:2: BadLine\n",
+        ),
+        (
+            &["rewrite", "short.aut"],
+            refused(4, AutKind::MissingLines { said: 3, found: 2 }),
+            "spectro: short.aut:4: MissingLines said 3 found 2\n",
         ),
         (
             &["rewrite", "nothing.aut"],

@@ -1,0 +1,165 @@
+-- What is read as a transition is one, and each transition is read; and so its label, where the line is UTF-8.
+use Rattle.std.proofs.Common.{◌≡◌, ◌∙◌, ℕ, ◌+◌, ◌-◌, ◌<◌, Bool, true, false, cond, List, [], ◌∷◌, ◌++◌, get_or, drop, length, arith, inl, inr, refl, sym, ap, subst, append_assoc, length-append}
+use Rattle.std.specs.Prelude.{Option, Some, nat_lt, nat_eq, not, Contains}
+use Rattle.std.specs.List.{list_all, list_any}
+use Rattle.std.specs.Str.{IsUtf8, is_utf8, IsCharBoundary}
+use Rattle.std.proofs.Math.Seq.{take-append_seam, drop-append_seam}
+use Rattle.std.proofs.lemmas.Bool.{and_from, and_parts, ltb-true, lt-ltb, not-true, not_from_false, and_right, cases_lt}
+use Rattle.std.proofs.lemmas.List.{append_cancel_right, nil_from_length, get_or_append_left, get_or-append-add}
+use Rattle.std.proofs.lemmas.List.Folds.{list_all-append}
+use Rattle.std.proofs.lemmas.Option.{cond_some, same_Some}
+use Rattle.std.proofs.lemmas.Str.{IsUtf8-take, IsUtf8-drop, is_utf8-from_IsUtf8, IsCharBoundary-before_ascii, IsCharBoundary-after_ascii}
+use Rattle.spectro_io.specs.Blanks.{trimmed}
+use Rattle.spectro_io.specs.Fronts.{after, ◌>>=◌}
+use Rattle.spectro_io.proofs.Fronts.{bind_some, after_sound}
+use Rattle.spectro_aut.specs.Fields.{IsLabelField}
+use Rattle.spectro_aut.specs.Grammar.{IsTransition}
+use Rattle.spectro_aut.specs.Reading.{Transition, before_last, first_split, last_split, field_number, transition_of, utf8_of, unquoted, is_bare, label_of}
+use Rattle.spectro_aut.proofs.Choices.{bind_then}
+use Rattle.spectro_aut.proofs.FieldLaws.{list_all-at, Lacks-Contains, Lacks-from_no_Contains, trimmed_split, before_last_sound, before_last_complete, first_split_sound, first_split_complete, last_split_sound, last_split_complete, capped, field_number_sound, field_number_complete, number_lacks_comma, is_ascii_byte, blanks_are_ascii}
+
+-- the transition has the field of the text, and its numbers, as far as 64 bits go
+pub record IsTransitionOf (text : List ℕ) (transition : Transition) : Type 0 where
+  pub source : ℕ
+  pub target : ℕ
+  pub is_transition : IsTransition text source transition.field target
+  pub is_source : transition.source ≡ capped source
+  pub is_target : transition.target ≡ capped target
+
+-- the parts of a transition
+transition_parts : (first middle last : List ℕ) → 40 ∷ first ++ 44 ∷ middle ++ 44 ∷ last ++ 41 ∷ [] ≡ 40 ∷ ((first ++ 44 ∷ (middle ++ 44 ∷ last)) ++ 41 ∷ [])
+transition_parts first middle last = simp append_assoc
+
+transition_whole : (text opened fields first others middle last : List ℕ) → text ≡ 40 ∷ opened → opened ≡ fields ++ 41 ∷ [] → fields ≡ first ++ 44 ∷ others → others ≡ middle ++ 44 ∷ last → text ≡ 40 ∷ first ++ 44 ∷ middle ++ 44 ∷ last ++ 41 ∷ []
+transition_whole text opened fields first others middle last o z f l =
+    o ∙ ap (λ l. 40 ∷ l) (z ∙ ap (λ l. l ++ 41 ∷ []) (f ∙ ap (λ l. first ++ 44 ∷ l) l)) ∙ sym (transition_parts first middle last)
+
+transition_made : (text first middle last : List ℕ) (source target : ℕ) (transition : Transition) → text ≡ 40 ∷ first ++ 44 ∷ middle ++ 44 ∷ last ++ 41 ∷ [] → field_number first ≡ Some source → field_number last ≡ Some target
+    → ◌≡◌ {A = Option Transition} (Some (record { source = source; field = trimmed middle; target = target })) (Some transition) → IsTransitionOf text transition
+transition_made text first middle last source target transition whole s t e =
+    let is_first = field_number_sound first source s in
+    let is_last = field_number_sound last target t in
+    subst (IsTransitionOf text) (same_Some (record { source = source; field = trimmed middle; target = target }) transition e) (record {
+      source = is_first.0;
+      target = is_last.0;
+      is_transition = record { first = first; middle = middle; last = last; whole = whole; is_source = is_first.1; is_field = refl; is_target = is_last.1 };
+      is_source = is_first.2;
+      is_target = is_last.2;
+    })
+
+pub transition_of_sound : (text : List ℕ) (transition : Transition) → transition_of text ≡ Some transition → IsTransitionOf text transition
+unfolding transition_of
+transition_of_sound text transition e =
+    bind_then (after (40 ∷ []) text) _ transition e (λ opened o e.
+    bind_then (before_last 41 opened) _ transition e (λ fields z e.
+    bind_then (first_split 44 fields) _ transition e (λ first f e.
+    bind_then (last_split 44 first.1) _ transition e (λ last l e.
+    bind_then (field_number first.0) _ transition e (λ source s e.
+    bind_then (field_number last.1) _ transition e (λ target t e.
+    let whole = transition_whole text opened fields first.0 first.1 last.0 last.1 (after_sound (40 ∷ []) text opened o) (before_last_sound 41 opened fields z) (first_split_sound 44 fields first.0 first.1 f).0
+    (last_split_sound 44 first.1 last.0 last.1 l).0 in
+    transition_made text first.0 last.0 last.1 source target transition whole s t e))))))
+
+pub transition_of_complete : (text : List ℕ) (source : ℕ) (field : List ℕ) (target : ℕ) → IsTransition text source field target
+    → transition_of text ≡ Some (record { source = capped source; field = field; target = capped target })
+unfolding transition_of
+transition_of_complete text source field target h =
+    let first = h.first in
+    let middle = h.middle in
+    let last = h.last in
+    let others : List ℕ = middle ++ 44 ∷ last in
+    let fields : List ℕ = first ++ 44 ∷ others in
+    let whole : text ≡ 40 ∷ (fields ++ 41 ∷ []) = h.whole ∙ transition_parts first middle last in
+    let is_field : trimmed middle ≡ field = sym h.is_field in
+    rw (
+      whole,
+      before_last_complete 41 fields,
+      first_split_complete 44 first others (number_lacks_comma first source h.is_source),
+      last_split_complete 44 middle last (number_lacks_comma last target h.is_target),
+      field_number_complete first source h.is_source,
+      field_number_complete last target h.is_target,
+      is_field,
+    ) refl
+
+-- what stands behind or before bytes of ASCII in UTF-8 is UTF-8
+pub utf8_behind : (front opening rest : List ℕ) → list_all is_ascii_byte opening ≡ true → 0 < length opening → IsUtf8 (front ++ (opening ++ rest)) → IsUtf8 rest
+utf8_behind front opening rest ascii some utf8 =
+    let text : List ℕ = front ++ (opening ++ rest) in
+    let place : ℕ = length front + (length opening - 1) in
+    let last : get_or text place 0 ≡ get_or opening (length opening - 1) 0 = get_or-append-add front (opening ++ rest) (length opening - 1) 0 ∙ get_or_append_left opening rest 0 (length opening - 1) (omega arith) in
+    let small : get_or opening (length opening - 1) 0 < 128 = ltb-true _ _ (list_all-at is_ascii_byte opening (length opening - 1) ascii (omega arith)) in
+    let boundary : IsCharBoundary text (place + 1) = IsCharBoundary-after_ascii text place utf8 (omega (arith, length-append front (opening ++ rest), length-append opening rest)) (omega (arith, last, small)) in
+    let cut : drop (place + 1) text ≡ rest = ap (λ n. drop n text) (omega (arith, length-append front opening)) ∙ ap (drop (length (front ++ opening))) (sym (append_assoc front opening rest)) ∙ drop-append_seam (front ++ opening) rest in
+    subst IsUtf8 cut (IsUtf8-drop text (place + 1) utf8 boundary)
+
+pub utf8_before : (text closing back : List ℕ) → list_all is_ascii_byte closing ≡ true → 0 < length closing → IsUtf8 (text ++ (closing ++ back)) → IsUtf8 text
+utf8_before text closing back ascii some utf8 =
+    let whole : List ℕ = text ++ (closing ++ back) in
+    let next : get_or whole (length text + 0) 0 ≡ get_or closing 0 0 = get_or-append-add text (closing ++ back) 0 0 ∙ get_or_append_left closing back 0 0 some in
+    let here : get_or whole (length text) 0 ≡ get_or closing 0 0 = ap (λ n. get_or whole n 0) (omega arith) ∙ next in
+    let small : get_or closing 0 0 < 128 = ltb-true _ _ (list_all-at is_ascii_byte closing 0 ascii some) in
+    let boundary : IsCharBoundary whole (length text) = IsCharBoundary-before_ascii whole (length text) (omega (arith, length-append text (closing ++ back), length-append closing back)) (omega (arith, here, small)) in
+    subst IsUtf8 (take-append_seam text (closing ++ back)) (IsUtf8-take whole (length text) utf8 boundary)
+
+-- where the field of a transition stands in its line
+field_place : (front first before field behind last back : List ℕ)
+    → front ++ ((40 ∷ first ++ 44 ∷ (before ++ (field ++ behind)) ++ 44 ∷ last ++ 41 ∷ []) ++ back) ≡ (front ++ 40 ∷ first) ++ ((44 ∷ before) ++ (field ++ ((behind ++ 44 ∷ []) ++ (last ++ 41 ∷ back))))
+field_place front first before field behind last back = simp append_assoc
+
+pub field_utf8 : (line : List ℕ) (source : ℕ) (field : List ℕ) (target : ℕ) → IsUtf8 line → IsTransition (trimmed line) source field target → IsUtf8 field
+field_utf8 line source field target utf8 h =
+    let outer = trimmed_split line in
+    let inner = trimmed_split h.middle in
+    let middle : h.middle ≡ inner.front ++ (field ++ inner.back) = inner.whole ∙ ap (λ l. inner.front ++ (l ++ inner.back)) (sym h.is_field) in
+    let whole : line ≡ (outer.front ++ 40 ∷ h.first) ++ ((44 ∷ inner.front) ++ (field ++ ((inner.back ++ 44 ∷ []) ++ (h.last ++ 41 ∷ outer.back)))) =
+    outer.whole ∙ ap (λ l. outer.front ++ (l ++ outer.back)) (h.whole ∙ ap (λ l. 40 ∷ h.first ++ 44 ∷ l ++ 44 ∷ h.last ++ 41 ∷ []) middle) ∙ field_place outer.front h.first inner.front field inner.back h.last outer.back in
+    let closing : list_all is_ascii_byte (inner.back ++ 44 ∷ []) ≡ true = list_all-append is_ascii_byte inner.back (44 ∷ []) ∙ and_from _ _ (blanks_are_ascii inner.back inner.behind) refl in
+    let rest = utf8_behind (outer.front ++ 40 ∷ h.first) (44 ∷ inner.front) _ (blanks_are_ascii inner.front inner.before) (omega arith) (subst IsUtf8 whole utf8) in
+    utf8_before field (inner.back ++ 44 ∷ []) (h.last ++ 41 ∷ outer.back) closing (omega (arith, length-append inner.back (44 ∷ []))) rest
+
+-- the label of a field
+label_of_bare : (field label : List ℕ) → is_bare field ≡ true → utf8_of field ≡ Some label → IsLabelField field label
+label_of_bare field label bare e =
+    let parts = and_parts (nat_lt 0 (length field)) (not (list_any (λ byte. nat_eq byte 34) field)) bare in
+    let some : 0 < length field = ltb-true _ _ parts.0 in
+    let same = cond_some (is_utf8 field) field label e in
+    IsLabelField.bare (sym same.1) (λ none. let empty : length field ≡ 0 = ap length none in omega arith) (Lacks-Contains field 34 (not-true _ parts.1))
+
+label_of_quoted : (field label : List ℕ) → (unquoted field >>= utf8_of) ≡ Some label → IsLabelField field label
+label_of_quoted field label e =
+    let inner = bind_some (unquoted field) utf8_of label e in
+    let rest = bind_some (after (34 ∷ []) field) (before_last 34) inner.0 inner.1 in
+    let same = cond_some (is_utf8 inner.0) inner.0 label inner.2 in
+    IsLabelField.quoted (after_sound (34 ∷ []) field rest.0 rest.1 ∙ ap (λ l. 34 ∷ l) (before_last_sound 34 rest.0 inner.0 rest.2) ∙ ap (λ l. 34 ∷ l ++ 34 ∷ []) same.1)
+
+label_of_either : (field label : List ℕ) (bare : Bool) → is_bare field ≡ bare → cond bare (utf8_of field) (unquoted field >>= utf8_of) ≡ Some label → IsLabelField field label
+label_of_either field label true is e = label_of_bare field label is e
+label_of_either field label false is e = label_of_quoted field label e
+
+pub label_of_sound : (field label : List ℕ) → label_of field ≡ Some label → IsLabelField field label
+unfolding label_of
+label_of_sound field label e = label_of_either field label (is_bare field) refl e
+
+pub label_of_complete : (field label : List ℕ) → IsLabelField field label → IsUtf8 field → label_of field ≡ Some label
+unfolding label_of
+label_of_complete field label (IsLabelField.quoted whole) utf8 =
+    let rest : after (34 ∷ []) field ≡ Some (label ++ 34 ∷ []) = ap (after (34 ∷ [])) whole in
+    let inner : IsUtf8 label = utf8_before label (34 ∷ []) [] refl (omega arith) (utf8_behind [] (34 ∷ []) (label ++ 34 ∷ []) refl (omega arith) (subst IsUtf8 whole utf8)) in
+    let bare : is_bare field ≡ false = ap is_bare whole ∙ and_right (nat_lt 0 (length (34 ∷ label ++ 34 ∷ []))) false refl in
+    let is : is_utf8 label ≡ true = is_utf8-from_IsUtf8 label inner in
+    rw (bare, rest, before_last_complete 34 label, is) refl
+label_of_complete field label (IsLabelField.bare same some none) utf8 =
+    let long : 0 < length field = elim (cases_lt 0 (length field)) [ inl p ↦ p | inr p ↦ absurd (some (nil_from_length field (omega arith))) ] in
+    let bare : is_bare field ≡ true = and_from _ _ (lt-ltb 0 (length field) long) (not_from_false _ (Lacks-from_no_Contains field 34 none)) in
+    let is : is_utf8 field ≡ true = is_utf8-from_IsUtf8 field utf8 in
+    rw (bare, is) (ap Some (sym same))
+
+-- a field has one label
+quote_within : (field label : List ℕ) → field ≡ 34 ∷ label ++ 34 ∷ [] → Contains field 34
+quote_within field label whole = subst (λ l. Contains l 34) (sym whole) (0, omega arith, refl)
+
+pub one_label : (field one other : List ℕ) → IsLabelField field one → IsLabelField field other → one ≡ other
+one_label field one other (IsLabelField.quoted a) (IsLabelField.quoted b) = append_cancel_right one other (34 ∷ []) (ap (drop 1) (sym a ∙ b))
+one_label field one other (IsLabelField.quoted a) (IsLabelField.bare same some none) = absurd (none (quote_within field one a))
+one_label field one other (IsLabelField.bare same some none) (IsLabelField.quoted b) = absurd (none (quote_within field other b))
+one_label field one other (IsLabelField.bare a some none) (IsLabelField.bare b more few) = a ∙ sym b

@@ -1,0 +1,31 @@
+-- Laws of whole texts: a text is of one system or has one first fault, and a long text is judged by its front.
+use Rattle.std.specs.Prelude.{ℕ, ◌≡◌, ◌≤◌, List, length, take}
+use Rattle.spectro_io.specs.Limits.{read_limit}
+use Rattle.spectro_spec.specs.System.{System}
+use Rattle.spectro_aut.specs.Grammar.{IsText}
+use Rattle.spectro_aut.specs.Faults.{IsFirstFault}
+use Rattle.spectro_aut.specs.declared.error.AutFault.{AutFault}
+
+-- a text is of at most one system
+abbrev pub SystemsAreOne : Type 0
+SystemsAreOne = (text : List ℕ) (one other : System) → IsText text one → IsText text other → one ≡ other
+
+-- a text has at most one first fault
+abbrev pub FirstFaultsAreOne : Type 0
+FirstFaultsAreOne = (text : List ℕ) (one other : AutFault) → IsFirstFault text one → IsFirstFault text other → one ≡ other
+
+-- the text of a system has no fault
+abbrev pub TextsHaveNoFault : Type 0
+TextsHaveNoFault = (text : List ℕ) (system : System) (fault : AutFault) → IsText text system → IsFirstFault text fault → ⊥
+
+-- the text of a system is no longer than a text may be
+abbrev pub TextsAreShort : Type 0
+TextsAreShort = (text : List ℕ) (system : System) → IsText text system → length text ≤ 67108864
+
+-- the fault of as many bytes as are read is that of the whole text
+abbrev pub FaultsOfFrontsStay : Type 0
+FaultsOfFrontsStay = (text : List ℕ) (fault : AutFault) → IsFirstFault (take read_limit text) fault → read_limit ≤ length text → IsFirstFault text fault
+
+-- as many bytes as are read are no text of a system, where there are so many
+abbrev pub LongFrontsAreNoTexts : Type 0
+LongFrontsAreNoTexts = (text : List ℕ) (system : System) → IsText (take read_limit text) system → read_limit ≤ length text → ⊥

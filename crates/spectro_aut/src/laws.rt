@@ -1,0 +1,44 @@
+ghost use Rattle.spectro_aut.specs.Laws.{
+  FaultsOfFrontsStay,
+  FirstFaultsAreOne,
+  LongFrontsAreNoTexts,
+  SystemsAreOne,
+  TextsAreShort,
+  TextsHaveNoFault,
+};
+ghost use Rattle.spectro_aut.specs.RoundTrip.{WrittenTextsAreRead};
+
+/// A text is of at most one system.
+pub fn systems_are_one()
+    ensures { SystemsAreOne }
+{}
+
+/// A text has at most one first fault.
+pub fn first_faults_are_one()
+    ensures { FirstFaultsAreOne }
+{}
+
+/// The text of a system has no fault.
+pub fn texts_have_no_fault()
+    ensures { TextsHaveNoFault }
+{}
+
+/// The text of a system is no longer than a text may be.
+pub fn texts_are_short()
+    ensures { TextsAreShort }
+{}
+
+/// The fault of as many bytes as are read is that of the whole text.
+pub fn faults_of_fronts_stay()
+    ensures { FaultsOfFrontsStay }
+{}
+
+/// As many bytes as are read are no text of a system, where there are so many.
+pub fn long_fronts_are_no_texts()
+    ensures { LongFrontsAreNoTexts }
+{}
+
+/// What is written of a system is a text of it, where the limits of a text hold.
+pub fn written_texts_are_read()
+    ensures { WrittenTextsAreRead }
+{}
