@@ -29,7 +29,10 @@ fn trim(bytes: &[u8]) -> &[u8] {
     let Some(start) = bytes.iter().position(is_text) else {
         return &[];
     };
-    let end = bytes.iter().rposition(is_text).map_or(start, |last| last + 1);
+    let end = bytes
+        .iter()
+        .rposition(is_text)
+        .map_or(start, |last| last + 1);
     &bytes[start..end]
 }
 
@@ -53,7 +56,10 @@ fn fields(text: &[u8]) -> Option<(&[u8], &[u8], &[u8])> {
 }
 
 fn unquoted(field: &[u8]) -> &[u8] {
-    field.strip_prefix(b"\"").and_then(|rest| rest.strip_suffix(b"\"")).unwrap_or(field)
+    field
+        .strip_prefix(b"\"")
+        .and_then(|rest| rest.strip_suffix(b"\""))
+        .unwrap_or(field)
 }
 
 impl System {
@@ -79,7 +85,11 @@ impl System {
         let source = number(source)?;
         let target = number(target)?;
         let label = self.number_label(unquoted(trim(label)));
-        self.steps.push(Step { source, label, target });
+        self.steps.push(Step {
+            source,
+            label,
+            target,
+        });
         Some(())
     }
 
@@ -88,7 +98,13 @@ impl System {
         for (label, number) in &self.labels {
             labels[*number as usize] = label;
         }
-        writeln!(out, "des ({}, {}, {})", self.initial, self.steps.len(), self.states)?;
+        writeln!(
+            out,
+            "des ({}, {}, {})",
+            self.initial,
+            self.steps.len(),
+            self.states
+        )?;
         for step in &self.steps {
             write!(out, "({}, \"", step.source)?;
             out.write_all(labels[step.label as usize])?;
@@ -106,7 +122,11 @@ fn read(name: &str) -> Result<System, Box<dyn Error>> {
     while input.read_until(b'\n', &mut line)? > 0 {
         let text = trim(&line);
         if !text.is_empty() {
-            let taken = if is_first { system.take_header(text) } else { system.take_step(text) };
+            let taken = if is_first {
+                system.take_header(text)
+            } else {
+                system.take_step(text)
+            };
             taken.ok_or("a line is not of its form")?;
             is_first = false;
         }
