@@ -5,7 +5,6 @@ use Rattle.std.specs.Io.KnownBytes.{Appends}
 use Rattle.spectro_io.specs.Bytes.{AppendsPart}
 use Rattle.spectro_io.specs.Faults.{Rose}
 use Rattle.spectro_aut.specs.Kinds as aut
-use Rattle.spectro_aut.specs.declared.error.AutKind.TheVariants.{MissingLines}
 use Rattle.spectro_hml.specs.Kinds as hml
 use Rattle.spectro.specs.Words.{Word, Command, eval, rewrite, command}
 use Rattle.spectro.specs.declared.status.BadText as declared
@@ -30,8 +29,8 @@ kind_name (kinds.Formula kind) = hml.kind_name kind
 
 -- how many lines the header said and how many were found, where the kind tells it
 abbrev pub counts_text : Kind → List ℕ
-counts_text (kinds.Aut (MissingLines said found)) = codes " said " ++ decimal said ++ codes " found " ++ decimal found
-counts_text kind = []
+counts_text (kinds.Aut kind) = aut.counts_text kind
+counts_text (kinds.Formula kind) = []
 
 -- where a text of this name was refused, and why
 abbrev pub fault_text : List ℕ → declared.BadText → List ℕ

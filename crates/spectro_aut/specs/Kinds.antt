@@ -1,5 +1,7 @@
--- The names of the kinds of faults.
-use Rattle.std.specs.Prelude.{ℕ, List, codes}
+-- The names of the kinds of faults, and how a fault is printed.
+use Rattle.std.specs.Prelude.{ℕ, List, [], ◌++◌, codes}
+use Rattle.std.specs.Fmt.{decimal}
+use Rattle.spectro_aut.specs.declared.error.AutFault.{AutFault}
 use Rattle.spectro_aut.specs.declared.error.AutKind.{AutKind}
 use Rattle.spectro_aut.specs.declared.error.AutKind.TheVariants.{NotText, NoHeader, BadHeader, TooManyStates, TooManyTransitions, NoState, BadInitial, BadLine, BadLabel, LabelTooLong, StateRange, TooManyLabels, ExtraLine, MissingLines, TooLong}
 
@@ -19,3 +21,12 @@ kind_name TooManyLabels = codes "TooManyLabels"
 kind_name ExtraLine = codes "ExtraLine"
 kind_name (MissingLines said found) = codes "MissingLines"
 kind_name TooLong = codes "TooLong"
+
+-- how many transitions the header said and how many were found, where the kind tells it
+abbrev pub counts_text : AutKind → List ℕ
+counts_text (MissingLines said found) = codes " said " ++ decimal said ++ codes " found " ++ decimal found
+counts_text kind = []
+
+-- line LINE: KIND
+abbrev pub fault_text : AutFault → List ℕ
+fault_text fault = codes "line " ++ decimal fault.line ++ codes ": " ++ kind_name fault.kind ++ counts_text fault.kind

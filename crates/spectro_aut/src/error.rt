@@ -1,5 +1,5 @@
-ghost use Rattle.std.specs.Prelude.{◌≡◌};
-ghost use Rattle.spectro_aut.specs.Kinds.{kind_name};
+ghost use Rattle.std.specs.Prelude.{◌≡◌, Some};
+ghost use Rattle.spectro_aut.specs.Kinds.{fault_text, kind_name};
 ghost use Rattle.spectro_aut.specs.declared.error.AutError.TheVariants.{OutOfMemory};
 
 use std::alloc::AllocError;
@@ -93,9 +93,16 @@ impl AutKind {
 }
 
 impl fmt::Display for AutFault {
+    ghost output = { λ fault. Some (fault_text fault) };
+
     fn fmt<W: fmt::Write>(&self, f: &mut fmt::Formatter<W>) -> fmt::Result {
         let line = self.line;
-        let kind = self.kind;
-        write!(f, "line {line}: {kind:?}")
+        let kind = self.kind.name();
+        match self.kind {
+            AutKind::MissingLines { said, found } => {
+                write!(f, "line {line}: {kind} said {said} found {found}")
+            }
+            _ => write!(f, "line {line}: {kind}"),
+        }
     }
 }

@@ -299,7 +299,7 @@ fn says_the_line_and_the_fault(rt: HostRuntime) -> Result<(), Fail> {
         (b"des (0,1,2)\n\n(0,a,2)".as_slice(), "line 3: StateRange"),
         (
             b"des (0,3,2)\n(0,a,1)\n",
-            "line 3: MissingLines { said: 3, found: 1 }",
+            "line 3: MissingLines said 3 found 1",
         ),
     ] {
         let Err(error) = read(rt.alloc(), text) else {
