@@ -2,6 +2,7 @@ pub mod Faults
 pub mod Bytes
 pub mod Batches
 pub mod Blanks
+pub mod Tokens
 pub mod Numbers
 pub mod Fronts
 pub mod Lines

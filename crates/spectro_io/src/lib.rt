@@ -17,5 +17,5 @@ pub use line_reader::{Got, LineReader};
 pub use lines::{LineAt, line_at, without_cr};
 pub use memory::{MemShelf, MemSink, MemSource};
 pub use read::{READ_LIMIT, ReadError, read_all};
-pub use text::{number, trim, trim_start};
+pub use text::{number, token_at, trim, trim_start};
 pub use write::{write_number, write_whole};

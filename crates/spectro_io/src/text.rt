@@ -1,6 +1,8 @@
-ghost use Rattle.std.specs.Prelude.{◌≡◌, reverse};
+ghost use Rattle.std.specs.Prelude.{◌≡◌, ◌↔◌, [], true, position, reverse};
+ghost use Rattle.std.specs.List.{list_all};
 ghost use Rattle.spectro_io.specs.Blanks.{is_blank, skip_blanks, trimmed};
 ghost use Rattle.spectro_io.specs.Numbers.{number_of};
+ghost use Rattle.spectro_io.specs.Tokens.{first_token, after_token};
 
 fn is_blank(byte: u8) -> bool
     ensures { result ≡ is_blank byte }
@@ -61,3 +63,22 @@ pub fn trim(bytes: &[u8]) -> &[u8]
 {
     trim_end(trim_start(bytes))
 }
+
+fn first_blank(bytes: &[u8]) -> Option<usize>
+    ensures { result ≡ position is_blank bytes.now }
+{
+    bytes.iter().position(|byte| is_blank(*byte))
+}
+
+/// The first token of the line, and what stands behind it, from the blank on that ends it.
+pub fn token_at(line: &[u8]) -> (&[u8], &[u8])
+    ensures token { result.0.now ≡ first_token line.now }
+    ensures rest { result.1.now ≡ after_token line.now }
+    ensures none { result.0.now ≡ [] ↔ list_all is_blank line.now ≡ true }
+{
+    let text = trim_start(line);
+    text.split_at(first_blank(text).unwrap_or(text.len()))
+}
+
+#[cfg(test)]
+mod tests;
