@@ -15,3 +15,4 @@ pub mod Entries
 pub mod LineReaders
 pub mod Buffers
 pub mod LineSteps
+pub mod NumberedLines

@@ -7,15 +7,12 @@ ghost use Rattle.spectro_io.specs.Limits.{read_limit};
 ghost use Rattle.spectro_io.specs.LineSteps.{gathered, answered, refilled};
 ghost use Rattle.spectro_io.specs.LineReaders.{line_limit, has_line_feed, Holds, Takes, AnswersLine, AnswersEnd, HoldsUnended, KeepsLine};
 
-use crate::lines::{line_feed, without_cr};
+use crate::lines::{LINE_LIMIT, line_feed, without_cr};
 use crate::read::PIECE;
 use crate::{Failed, READ_LIMIT, Source};
 use std::alloc::{AllocError, Global};
 use std::marker::Model;
 use std::mem::swap;
-
-// Bytes of a line that are kept.
-const LINE_LIMIT: usize = 32_768;
 
 // Bytes that are gathered of a line: two more than are kept tell whether the line is longer, a CR at its end
 // not counted.
