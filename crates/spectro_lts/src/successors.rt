@@ -75,4 +75,17 @@ mod tests {
         assert_eq!(rt; lts.post(&[], 0)?.as_slice().len(), 0);
         Ok(())
     }
+
+    // After a, either b or c, as the first step decides; b is label 1.
+    #[test]
+    fn follows_the_members_that_have_the_step(rt: HostRuntime) -> Result<(), Fail> {
+        let mut draft = Draft::new(rt.alloc(), 4, 0)?;
+        draft.add(0, "a", 1)?;
+        draft.add(0, "a", 2)?;
+        draft.add(1, "b", 3)?;
+        draft.add(2, "c", 3)?;
+        let lts = draft.finish()?;
+        assert_eq!(rt; lts.post(&[1, 2], 1)?.as_slice(), [3].as_slice());
+        Ok(())
+    }
 }
