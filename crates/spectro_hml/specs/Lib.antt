@@ -3,5 +3,7 @@ pub mod Chain
 pub mod Faults
 pub mod Grammar
 pub mod Kinds
+pub mod Nodes
 pub mod Reading
+pub mod Sheets
 pub mod Truth
