@@ -1,0 +1,101 @@
+ghost use Rattle.std.specs.Prelude.{◌≡◌, ◌≢◌, ◌<◌, ◌≤◌, [], false, length, OnOk, OnErr};
+ghost use Rattle.spectro_spec.specs.System.{Label};
+ghost use Rattle.spectro_spec.specs.Weighing.{IsWeighing, weight_of};
+ghost use Rattle.spectro_weights.specs.Setting.{is_set, with_weight};
+
+use indexmap::IndexMap;
+use std::alloc::{AllocError, Global};
+use std::marker::Model;
+
+/// How many labels may have a weight of their own.
+pub const MAX_LABELS: usize = 65_536;
+
+/// What each label weighs. One that is not set weighs 1.
+#[derive(Drop)]
+pub struct Weights {
+    weights: IndexMap<String, u8>,
+}
+
+impl Model for Weights {
+    ghost use Rattle.spectro_spec.specs.Weighing.{Weighing};
+    ghost use Rattle.spectro_weights.specs.Setting.{AreWeights};
+    ghost use Rattle.spectro_weights.specs.Entries.{weighing_of};
+
+    ghost Value = { Weighing };
+
+    ghost view = { λ kept. weighing_of kept.weights.entries };
+
+    ghost invariant = { λ kept. AreWeights (weighing_of kept.weights.entries) };
+}
+
+impl Weights {
+    /// Every label weighs 1.
+    pub fn new(alloc: Global) -> Weights
+        ensures { result ≡ [] }
+    {
+        Weights {
+            weights: IndexMap::new(alloc),
+        }
+    }
+
+    /// What the label weighs.
+    pub fn of(&self, label: &str) -> u8
+        ensures value { result ≡ weight_of self.now label.now }
+        ensures weighing { IsWeighing self.now }
+    {
+        self.weights.get(label).copied().unwrap_or(1)
+    }
+
+    /// Whether the label was set.
+    pub fn has_label(&self, label: &str) -> bool
+        ensures { result ≡ is_set self.now label.now }
+    {
+        self.weights.contains_key(label)
+    }
+
+    /// How many labels were set.
+    pub fn label_count(&self) -> u32
+        ensures value { result ≡ length self.now }
+        ensures bound { result ≤ 65536 }
+    {
+        self.weights.len() as u32
+    }
+
+    /// Gives the label the weight in place of the one that it had. A new label goes behind the others.
+    pub fn set(&mut self, label: &str, weight: u8) -> Result<(), AllocError>
+        requires room { is_set self.old label.now ≡ false → length self.old < 65536 }
+        ensures list { OnOk result (self.new ≡ with_weight self.old label.now weight) }
+        ensures value { OnOk result (weight_of self.new label.now ≡ weight) }
+        ensures others { OnOk result ((other : Label) → other ≢ label.now → weight_of self.new other ≡ weight_of self.old other) }
+        ensures err { OnErr result (self.new ≡ self.old) }
+    {
+        let alloc = *self.weights.allocator();
+        let label = String::from_str(alloc, label)?;
+        self.weights.insert(label, weight)?;
+        Ok(())
+    }
+}
+
+#[cfg(test)]
+mod tests {
+    use super::*;
+    use std::test::Fail;
+
+    #[test]
+    fn weighs_labels_as_they_were_set_last(rt: HostRuntime) -> Result<(), Fail> {
+        let mut weights = Weights::new(rt.alloc());
+        assert_eq!(rt; weights.label_count(), 0);
+        assert_eq!(rt; weights.of("tea"), 1);
+        weights.set("tea", 0)?;
+        weights.set("coin", 255)?;
+        weights.set("", 7)?;
+        weights.set("tea", 3)?;
+        assert_eq!(rt; weights.label_count(), 3);
+        for (label, weight) in [("tea", 3), ("coin", 255), ("", 7), ("coi", 1), ("coins", 1)] {
+            assert_eq!(rt; weights.of(label), weight, "{label}");
+        }
+        assert!(rt; weights.has_label("coin"));
+        assert!(rt; !weights.has_label("coi"));
+        Ok(())
+    }
+}
