@@ -1,0 +1,7 @@
+//! At which states the formulas of a sheet are true: a table that is filled node by node.
+#![tactic(auto)]
+
+mod row;
+mod truth;
+
+pub use truth::Truth;

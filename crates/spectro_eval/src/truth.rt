@@ -1,0 +1,138 @@
+ghost use Rattle.std.specs.Prelude.{◌≡◌, ℕ, ◌+◌, ◌<◌, ◌↔◌, List, [], false, length, take, slice_index_or, IfOk, IsTrue};
+ghost use Rattle.spectro_spec.specs.System.{System, IsWhole};
+ghost use Rattle.spectro_spec.specs.Formula.{Satisfies};
+ghost use Rattle.spectro_hml.specs.Sheets.{SheetNode, formulas_of, unfolded};
+ghost use Rattle.spectro_hml.specs.Truth.{AreTruths};
+ghost use Rattle.spectro_eval.specs.Rows.{words_of, bits_of};
+ghost use Rattle.spectro_eval.specs.Truths.{AreSheetTruths, AreRows};
+
+use crate::row::{bit_of, row_at, words_of, write_conjunction, write_observation};
+use spectro_hml::{Node, Sheet};
+use spectro_lts::Lts;
+use std::alloc::{AllocError, Global};
+use std::marker::Model;
+
+/// At which states the formulas of a sheet are true: a row for each node, lowest first, with a bit for each state.
+#[derive(Drop)]
+pub struct Truth {
+    states: u32,
+    rows: Vec<u64>,
+}
+
+impl Model for Truth {
+    ghost use Rattle.std.specs.Prelude.{Bool, List};
+    ghost use Rattle.spectro_eval.specs.Rows.{rows_of};
+
+    ghost Value = { List (List Bool) };
+
+    ghost view = { λ truth. rows_of truth.states truth.rows.items };
+}
+
+impl Truth {
+    /// At which states the formulas of the sheet are true.
+    pub fn of(alloc: Global, lts: &Lts, sheet: &Sheet) -> Result<Truth, AllocError>
+        ensures { IfOk result (λ truth. AreSheetTruths lts.now sheet.now truth) }
+    {
+        let states = lts.states();
+        let mut rows = Vec::new(alloc);
+        let mut words = vec![in alloc; 0; words_of(states)]?;
+        let row = words.as_mut_slice();
+        for node in 0..sheet.len() {
+            write_row(lts, sheet, node, &rows, row);
+            rows.extend_from_slice(row)?;
+        }
+        Ok(Truth { states, rows })
+    }
+
+    /// Whether the formula of the node is true at the state.
+    pub fn at(&self, node: usize, state: u32) -> bool
+        requires node { node < length self.now }
+        requires state { state < length (slice_index_or self.now node []) }
+        ensures value { result ≡ slice_index_or (slice_index_or self.now node []) state false }
+        ensures truth { (system : System) (nodes : List SheetNode) → AreSheetTruths system nodes self.now → IsTrue result ↔ Satisfies system state (unfolded nodes node) }
+    {
+        bit_of(row_at(&self.rows, words_of(self.states), node), state)
+    }
+}
+
+// Writes the row of the node. The rows of the nodes before it are there.
+fn write_row(lts: &Lts, sheet: &Sheet, node: usize, rows: &[u64], row: &mut [u64])
+    requires whole { IsWhole lts.now }
+    requires node { node < length sheet.now }
+    requires rows { AreRows lts.now (formulas_of (take node sheet.now)) rows.now }
+    requires row { length row.old ≡ words_of lts.now.states }
+    ensures { AreTruths lts.now (unfolded (take (node + 1) sheet.now) node) (bits_of lts.now.states row.new) }
+{
+    match sheet.node(node) {
+        Node::See { label, next } => write_observation(
+            lts,
+            label,
+            row_at(rows, row.len(), next),
+            row,
+        ),
+        Node::All { clauses } => write_conjunction(rows, clauses, row),
+    }
+}
+
+#[cfg(test)]
+mod tests {
+    use super::*;
+    use spectro_hml::Clause;
+    use spectro_lts::Draft;
+
+    // Two steps under `a`, of which one leads on to a step under `b`.
+    fn branches(alloc: Global) -> Result<Lts, AllocError> {
+        let mut draft = Draft::new(alloc, 4, 0)?;
+        draft.add(0, "a", 1)?;
+        draft.add(0, "a", 2)?;
+        draft.add(1, "b", 3)?;
+        draft.finish()
+    }
+
+    // Truth; a step under `b`; one under `a` to there; no step under `b`; one under `a` to there.
+    fn shared_parts(alloc: Global) -> Result<Sheet, AllocError> {
+        let mut sheet = Sheet::new(alloc);
+        sheet.push_all(&[])?;
+        sheet.push_see("b", 0)?;
+        sheet.push_see("a", 1)?;
+        let clause = Clause {
+            positive: false,
+            node: 1,
+        };
+        sheet.push_all(&[clause])?;
+        sheet.push_see("a", 3)?;
+        Ok(sheet)
+    }
+
+    #[test]
+    fn tells_each_node_at_each_state(rt: HostRuntime) {
+        let alloc = rt.alloc();
+        for (node, states) in [
+            (0, [true, true, true, true]),
+            (1, [false, true, false, false]),
+            (2, [true, false, false, false]),
+            (3, [true, false, true, true]),
+            (4, [true, false, false, false]),
+        ] {
+            for (state, want) in states.iter().enumerate() {
+                assert_eq!(rt;
+                    told(alloc, node, state as u32),
+                    Some(*want),
+                    "node {node} at {state}"
+                );
+            }
+        }
+    }
+
+    // Whether the node's formula is true at the state, where there is memory.
+    fn told(alloc: Global, node: usize, state: u32) -> Option<bool> {
+        let lts = branches(alloc).ok()?;
+        let sheet = shared_parts(alloc).ok()?;
+        let truth = Truth::of(alloc, &lts, &sheet).ok()?;
+        if node < sheet.len() && state < lts.states() {
+            Some(truth.at(node, state))
+        } else {
+            None
+        }
+    }
+}
