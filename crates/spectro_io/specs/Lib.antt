@@ -16,3 +16,5 @@ pub mod LineReaders
 pub mod Buffers
 pub mod LineSteps
 pub mod NumberedLines
+pub mod QuotedLabels
+pub mod Unescaping

@@ -1,4 +1,4 @@
-//! Devices that bytes come from and go to, and what texts are made of: lines, blanks and numbers.
+//! Devices that bytes come from and go to, and what texts are made of: lines, blanks, numbers and quoted labels.
 #![tactic(auto)]
 
 mod batch;
@@ -8,6 +8,7 @@ mod line_reader;
 mod lines;
 mod memory;
 mod numbered_lines;
+mod quoted;
 mod read;
 mod text;
 mod write;
@@ -18,6 +19,7 @@ pub use line_reader::{Got, LineReader};
 pub use lines::{LineAt, line_at, without_cr};
 pub use memory::{MemShelf, MemSink, MemSource};
 pub use numbered_lines::{NumberedLine, NumberedLines};
+pub use quoted::{MAX_LABEL_BYTES, in_quotes, unquoted};
 pub use read::{READ_LIMIT, ReadError, read_all};
 pub use text::{number, token_at, trim, trim_start};
 pub use write::{write_number, write_whole};

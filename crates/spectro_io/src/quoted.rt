@@ -1,0 +1,148 @@
+ghost use Rattle.std.specs.Prelude.{◌≡◌, ◌==◌, ◌&&◌, not, ℕ, List, false, string_bytes, IfOk, MatchOption};
+ghost use Rattle.std.specs.Option.{option_map};
+ghost use Rattle.spectro_io.specs.QuotedLabels.{is_closed_behind, IsInQuotes, IsQuoted};
+ghost use Rattle.spectro_io.specs.Unescaping.{is_stray, unescaped_behind};
+
+use std::alloc::{AllocError, Global};
+
+/// How many bytes a label has at most.
+pub const MAX_LABEL_BYTES: usize = 8192;
+
+/// What stands between the quotes at both ends of the text, where no quote between them ends it.
+pub fn in_quotes(text: &[u8]) -> Option<&[u8]>
+    ensures { MatchOption result ((inside : List ℕ) → ¬ IsInQuotes text.now inside) (λ inside. IsInQuotes text.now inside.now) }
+{
+    let opened = text.strip_prefix(b"\"")?;
+    let inside = opened.strip_suffix(b"\"")?;
+    if !is_closed(inside) {
+        return None;
+    }
+    Some(inside)
+}
+
+// Whether each quote among the bytes stands behind a backslash, and no backslash is left at their end.
+fn is_closed(bytes: &[u8]) -> bool
+    ensures { result ≡ is_closed_behind false bytes.now }
+{
+    let mut backslash = false;
+    for byte in bytes {
+        if is_end(backslash, *byte) {
+            return false;
+        }
+        backslash = !backslash && *byte == b'\\';
+    }
+    !backslash
+}
+
+// Whether the byte is a quote that no backslash takes with it.
+fn is_end(backslash: bool, byte: u8) -> bool
+    ensures { result ≡ (not backslash && (byte == 34)) }
+{
+    !backslash && byte == b'"'
+}
+
+/// The label that stands so between its quotes, with `\"` for a quote and `\\` for a backslash.
+/// `None` where the bytes are of no label: another byte behind a backslash, a quote with none before it,
+/// an LF, or a label of more than 8,192 bytes.
+pub fn unquoted(alloc: Global, inside: &str) -> Result<Option<String>, AllocError>
+    ensures { IfOk result (λ read. MatchOption read ((label : List ℕ) → ¬ IsQuoted inside.now label) (λ label. IsQuoted inside.now (string_bytes label))) }
+{
+    let Some(label) = unescaped(alloc, inside.as_bytes())? else {
+        return Ok(None);
+    };
+    if label.len() > MAX_LABEL_BYTES {
+        return Ok(None);
+    }
+    Ok(String::from_utf8(label).ok())
+}
+
+// Whether the byte can't stand there, where a backslash may stand before it.
+fn is_stray(backslash: bool, byte: u8) -> bool
+    ensures { result ≡ is_stray backslash byte }
+{
+    if backslash {
+        return byte != b'"' && byte != b'\\';
+    }
+    byte == b'"' || byte == b'\n'
+}
+
+// The label of the bytes, however long it is.
+fn unescaped(alloc: Global, inside: &[u8]) -> Result<Option<Vec<u8>>, AllocError>
+    ensures { IfOk result (λ label. option_map (λ label. label.items) label ≡ unescaped_behind false inside.now) }
+{
+    let mut label = Vec::new(alloc);
+    let mut backslash = false;
+    for byte in inside {
+        if is_stray(backslash, *byte) {
+            return Ok(None);
+        }
+        backslash = !backslash && *byte == b'\\';
+        if !backslash {
+            label.push(*byte)?;
+        }
+    }
+    if backslash {
+        return Ok(None);
+    }
+    Ok(Some(label))
+}
+
+#[cfg(test)]
+mod tests {
+    use super::*;
+    use std::test::Fail;
+
+    #[test]
+    fn takes_what_stands_between_the_quotes(rt: HostRuntime) -> Result<(), Fail> {
+        for (text, expected) in [
+            (b"\"\"".as_slice(), Some(b"".as_slice())),
+            (b"\"a b\"", Some(b"a b")),
+            (b"\"a\\x\"", Some(b"a\\x")),
+            (b"\"a\\\"\"", Some(b"a\\\"")),
+            (b"\"a\\\\\"", Some(b"a\\\\")),
+            (b"\"a\"b\"", None),
+            (b"\"a\\\"", None),
+            (b"\"a\\\\\\\"", None),
+            (b"\"a\" ", None),
+            (b"a\"", None),
+            (b"\"a", None),
+            (b"\"", None),
+            (b"", None),
+        ] {
+            assert_eq!(rt; in_quotes(text), expected, "{text:?}");
+        }
+        Ok(())
+    }
+
+    #[test]
+    fn undoes_the_escapes_of_labels(rt: HostRuntime) -> Result<(), Fail> {
+        for (inside, expected) in [
+            ("", Some("")),
+            ("PUT !0", Some("PUT !0")),
+            ("\\\"é\\\\", Some("\"é\\")),
+            ("\\\\n", Some("\\n")),
+            ("\\n", None),
+            ("\\é", None),
+            ("a\"", None),
+            ("a\\", None),
+            ("a\nb", None),
+            ("\\\n", None),
+        ] {
+            let label = unquoted(rt.alloc(), inside)?;
+            assert_eq!(rt; label.as_deref(), expected, "{inside:?}");
+        }
+        Ok(())
+    }
+
+    #[test]
+    fn takes_labels_of_8_192_bytes_and_no_more(rt: HostRuntime) -> Result<(), Fail> {
+        let mut inside = String::from_str(rt.alloc(), "\\\"")?;
+        for _ in 1..MAX_LABEL_BYTES {
+            inside.push('x')?;
+        }
+        assert!(rt; unquoted(rt.alloc(), &inside)?.is_some());
+        inside.push('x')?;
+        assert!(rt; unquoted(rt.alloc(), &inside)?.is_none());
+        Ok(())
+    }
+}
