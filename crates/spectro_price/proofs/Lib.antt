@@ -1,0 +1,4 @@
+pub mod Conjunctions
+pub mod NodePrices
+pub mod Passes
+pub mod Walks
