@@ -1,2 +1,8 @@
 pub mod Entries
 pub mod Setting
+pub mod Blanks
+pub mod WeightLines
+pub mod Reading
+pub mod Judgements
+pub mod Texts
+pub mod LongTexts

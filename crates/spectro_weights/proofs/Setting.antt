@@ -1,6 +1,6 @@
 -- What the setting of one label does to a weighing.
-use Rattle.std.proofs.Common.{◌≡◌, ◌≢◌, ◌∙◌, ℕ, ◌+◌, ◌<◌, ◌≤◌, Bool, true, false, [], ◌∷◌, length, refl, sym, if◌then◌else◌, arith}
-use Rattle.std.proofs.lemmas.Bool.{cond-true, false_from_ne_true}
+use Rattle.std.proofs.Common.{◌≡◌, ◌≢◌, ◌∙◌, ℕ, ◌+◌, ◌<◌, ◌≤◌, Bool, true, false, [], ◌∷◌, ◌++◌, length, refl, sym, ap, if◌then◌else◌, inl, inr, arith}
+use Rattle.std.proofs.lemmas.Bool.{cases_lt, cond-true, or_parts, false_from_ne_true}
 use Rattle.std.proofs.lemmas.List.Elements.{All-cons, All-head, All-tail}
 use Rattle.std.proofs.lemmas.Slice.Eq.{bytes_eq-Decides}
 use Rattle.std.specs.Str.{bytes_eq}
@@ -63,3 +63,14 @@ module _ (label : Label) (weight : ℕ) where
       by : (b : Bool) → bytes_eq entry.label label ≡ b → IsWeighing (with_weight weighing label weight) → IsWeighing (with_weight (entry ∷ weighing) label weight)
       by true e later = rw e (All-cons (λ entry. entry.weight ≤ 255) (record { label = entry.label; weight = weight }) weighing light rest)
       by false e later = rw e (All-cons (λ entry. entry.weight ≤ 255) entry (with_weight weighing label weight) (All-head (λ entry. entry.weight ≤ 255) entry weighing all) later)
+
+  -- a new label stands behind the others
+  pub with_weight-new : (weighing : Weighing) → is_set weighing label ≡ false → with_weight weighing label weight ≡ weighing ++ record { label = label; weight = weight } ∷ []
+  with_weight-new [] new = refl
+  with_weight-new (entry ∷ weighing) new =
+      let parts = or_parts (bytes_eq entry.label label) (is_set weighing label) new in
+      rw parts.0 (ap (λ weighing. entry ∷ weighing) (with_weight-new weighing parts.1))
+
+-- a count of labels that is not the greatest leaves room
+pub below-65536 : (count labels : ℕ) → count ≡ labels → count ≤ 65536 → (count ≡ 65536 → ⊥) → labels < 65536
+below-65536 count labels is bound other = elim (cases_lt count 65536) [ inl less ↦ omega (arith, is) | inr more ↦ absurd (other (omega arith)) ]

@@ -1,4 +1,4 @@
-ghost use Rattle.std.specs.Prelude.{◌≡◌, ◌≢◌, ◌<◌, ◌≤◌, [], false, length, OnOk, OnErr};
+ghost use Rattle.std.specs.Prelude.{◌≡◌, ◌≢◌, ◌<◌, ◌≤◌, [], false, length, string_bytes, OnOk, OnErr};
 ghost use Rattle.spectro_spec.specs.System.{Label};
 ghost use Rattle.spectro_spec.specs.Weighing.{IsWeighing, weight_of};
 ghost use Rattle.spectro_weights.specs.Setting.{is_set, with_weight};
@@ -70,7 +70,15 @@ impl Weights {
         ensures err { OnErr result (self.new ≡ self.old) }
     {
         let alloc = *self.weights.allocator();
-        let label = String::from_str(alloc, label)?;
+        self.insert(String::from_str(alloc, label)?, weight)
+    }
+
+    /// Gives the label the weight, as `set` does, and keeps the label.
+    pub(crate) fn insert(&mut self, label: String, weight: u8) -> Result<(), AllocError>
+        requires room { is_set self.old (string_bytes label) ≡ false → length self.old < 65536 }
+        ensures list { OnOk result (self.new ≡ with_weight self.old (string_bytes label) weight) }
+        ensures err { OnErr result (self.new ≡ self.old) }
+    {
         self.weights.insert(label, weight)?;
         Ok(())
     }

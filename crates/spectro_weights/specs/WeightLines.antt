@@ -1,0 +1,33 @@
+-- One line of a weight text: a number, and a label in quotes.
+use Rattle.std.specs.Prelude.{ℕ, ◌≡◌, ◌<◌, ◌≤◌, true, false, List, ◌∷◌, ◌++◌, length}
+use Rattle.std.specs.List.{list_all}
+use Rattle.spectro_io.specs.Blanks.{is_blank}
+use Rattle.spectro_io.specs.Numbers.{is_number, number_value}
+use Rattle.spectro_io.specs.QuotedLabels.{is_closed_behind, IsQuoted}
+use Rattle.spectro_spec.specs.Weighing.{Weight}
+
+-- nothing but blanks
+abbrev pub AreBlanks : List ℕ → Type 0
+AreBlanks bytes = list_all is_blank bytes ≡ true
+
+-- digits, one or more blanks, and this between two quotes, of which the second is the next that no backslash takes with it; blanks may stand at both ends
+pub record IsWeightLine (line digits inside : List ℕ) : Type 0 where
+  pub front : List ℕ
+  pub gap : List ℕ
+  pub back : List ℕ
+  pub whole : line ≡ front ++ digits ++ gap ++ 34 ∷ inside ++ 34 ∷ back
+  pub blanks_before : AreBlanks front
+  pub number : is_number digits ≡ true
+  pub blanks_between : AreBlanks gap
+  pub apart : 0 < length gap
+  pub closed : is_closed_behind false inside ≡ true
+  pub blanks_behind : AreBlanks back
+
+-- the line has the label, and before it the number that it weighs, which is at most 255
+pub record IsEntryLine (line : List ℕ) (entry : Weight) : Type 0 where
+  pub digits : List ℕ
+  pub inside : List ℕ
+  pub form : IsWeightLine line digits inside
+  pub label : IsQuoted inside entry.label
+  pub weight : entry.weight ≡ number_value digits
+  pub light : entry.weight ≤ 255
