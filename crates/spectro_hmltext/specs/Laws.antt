@@ -1,0 +1,24 @@
+-- What is true of all texts of formulas.
+use Rattle.std.specs.Prelude.{ℕ, ◌≡◌, ◌≤◌, List, length}
+use Rattle.spectro_spec.specs.Formula.{Formula}
+use Rattle.spectro_hmltext.specs.declared.error.TextFault.{TextFault}
+use Rattle.spectro_hmltext.specs.FormulaTexts.{IsFormulaText}
+use Rattle.spectro_hmltext.specs.Faults.{IsFirstFault}
+use Rattle.spectro_hmltext.specs.Printed.{formula_text, nesting_of, HasLabels}
+
+abbrev pub FormulasAreOne : Type 0
+FormulasAreOne = (text : List ℕ) (one other : Formula) → IsFormulaText text one → IsFormulaText text other → one ≡ other
+
+abbrev pub FirstFaultsAreOne : Type 0
+FirstFaultsAreOne = (text : List ℕ) (one other : TextFault) → IsFirstFault text one → IsFirstFault text other → one ≡ other
+
+abbrev pub TextsHaveNoFault : Type 0
+TextsHaveNoFault = (text : List ℕ) (formula : Formula) (fault : TextFault) → IsFormulaText text formula → IsFirstFault text fault → ⊥
+
+-- what is printed of a formula is a text of it, where it keeps the limits of a text
+abbrev pub PrintedTextsAreRead : Type 0
+PrintedTextsAreRead = (formula : Formula) → HasLabels formula → nesting_of formula ≤ 256 → length (formula_text formula) ≤ 65536 → IsFormulaText (formula_text formula) formula
+
+-- what is printed of the formula of a text has at most twice as many bytes as a text may have
+abbrev pub PrintedTextsAreShort : Type 0
+PrintedTextsAreShort = (text : List ℕ) (formula : Formula) → IsFormulaText text formula → length (formula_text formula) ≤ 131072

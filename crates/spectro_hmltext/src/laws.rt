@@ -1,0 +1,32 @@
+ghost use Rattle.spectro_hmltext.specs.Laws.{
+  FirstFaultsAreOne,
+  FormulasAreOne,
+  PrintedTextsAreRead,
+  PrintedTextsAreShort,
+  TextsHaveNoFault,
+};
+
+/// A text is of at most one formula.
+pub fn formulas_are_one()
+    ensures { FormulasAreOne }
+{}
+
+/// A text has at most one first fault.
+pub fn first_faults_are_one()
+    ensures { FirstFaultsAreOne }
+{}
+
+/// The text of a formula has no fault.
+pub fn texts_have_no_fault()
+    ensures { TextsHaveNoFault }
+{}
+
+/// What is printed of a formula is a text of it, where the limits of a text hold.
+pub fn printed_texts_are_read()
+    ensures { PrintedTextsAreRead }
+{}
+
+/// What is printed of the formula of a text has at most 131,072 bytes.
+pub fn printed_texts_are_short()
+    ensures { PrintedTextsAreShort }
+{}

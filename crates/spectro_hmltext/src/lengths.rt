@@ -1,0 +1,84 @@
+ghost use Rattle.std.specs.Prelude.{◌≡◌, ◌+◌, ◌-◌, ◌^◌, ◌<◌, min, length, All, IfOk};
+ghost use Rattle.std.specs.List.{sum_by};
+ghost use Rattle.spectro_hml.specs.Sheets.{unfolded};
+ghost use Rattle.spectro_hmltext.specs.Lengths.{AreLengths, clause_bytes, text_bytes};
+
+use crate::label::label_bytes;
+use spectro_hml::{Clause, Node, Sheet};
+use std::alloc::{AllocError, Global};
+
+/// How many bytes the text of the node's formula has, but at most the greatest number of 64 bits: shared parts
+/// count each time, so a sheet of 100 nodes can have a formula with more.
+pub(crate) fn text_bytes(alloc: Global, sheet: &Sheet, node: usize) -> Result<u64, AllocError>
+    requires { node < length sheet.now }
+    ensures { IfOk result (λ bytes. bytes ≡ text_bytes (unfolded sheet.now node)) }
+{
+    let mut before = Vec::with_capacity(alloc, node)?;
+    for k in 0..node {
+        let bytes = node_bytes(before.as_slice(), sheet, k);
+        before.push(bytes)?;
+    }
+    Ok(node_bytes(before.as_slice(), sheet, node))
+}
+
+// The same from the lengths for the nodes before it.
+fn node_bytes(before: &[u64], sheet: &Sheet, k: usize) -> u64
+    requires within { k < length sheet.now }
+    requires before { AreLengths sheet.now k before.now }
+    ensures { result ≡ text_bytes (unfolded sheet.now k) }
+{
+    match sheet.node(k) {
+        Node::See { label, next } => before[next].saturating_add(label_bytes(label) + 2),
+        Node::All { clauses: [] } => 2,
+        Node::All { clauses } => conjunction_bytes(before, clauses),
+    }
+}
+
+// The same of a conjunction of these clauses, of which there are some.
+fn conjunction_bytes(before: &[u64], clauses: &[Clause]) -> u64
+    requires { All (λ clause. clause.node < length before.now) clauses.now }
+    ensures { result ≡ min (4 + sum_by (clause_bytes before.now) clauses.now) (2 ^ 64 - 1) }
+{
+    // `and{}`, less the comma that the first clause has not
+    let mut bytes: u64 = 4;
+    for clause in clauses {
+        // `,` or `,not `
+        let mark = if clause.positive { 1 } else { 5 };
+        bytes = bytes
+            .saturating_add(mark)
+            .saturating_add(before[clause.node]);
+    }
+    bytes
+}
+
+#[cfg(test)]
+mod tests {
+    use super::text_bytes;
+    use spectro_hml::{Clause, Sheet};
+    use std::alloc::AllocError;
+
+    #[test]
+    fn counts_the_bytes_of_each_formula(rt: HostRuntime) -> Result<(), AllocError> {
+        let alloc = rt.alloc();
+        let both = [
+            Clause {
+                positive: true,
+                node: 0,
+            },
+            Clause {
+                positive: false,
+                node: 1,
+            },
+        ];
+        let mut sheet = Sheet::new(alloc);
+        sheet.push_all(&[])?;
+        sheet.push_see("a\"b\\", 0)?;
+        sheet.push_all(&both)?;
+        assert_eq!(rt; text_bytes(alloc, &sheet, 0)?, 2);
+        // `<"a\"b\\">tt`
+        assert_eq!(rt; text_bytes(alloc, &sheet, 1)?, 12);
+        // `and{tt,not <"a\"b\\">tt}`
+        assert_eq!(rt; text_bytes(alloc, &sheet, 2)?, 24);
+        Ok(())
+    }
+}

@@ -1,0 +1,152 @@
+ghost use Rattle.std.specs.Prelude.{◌≡◌, ◌++◌};
+ghost use Rattle.std.specs.Fmt.{decimal};
+ghost use Rattle.spectro_io.specs.Batches.{Puts};
+ghost use Rattle.spectro_io.specs.Bytes.{WritesWhole};
+ghost use Rattle.spectro_io.specs.Faults.{HasCause};
+ghost use Rattle.spectro_hml.specs.Nodes.{node_shown};
+ghost use Rattle.spectro_hml.specs.Sheets.{all_node, see_node};
+ghost use Rattle.spectro_hmltext.specs.SheetTexts.{clause_text, node_text, sheet_text};
+
+use crate::label::put_label;
+use spectro_hml::{Clause, Node, Sheet};
+use spectro_io::{Batch, Failed, Sink};
+
+/// Writes a line for each node of the sheet.
+pub fn print_sheet<O: Sink>(sheet: &Sheet, out: &mut O) -> Result<(), Failed>
+    ensures bytes { WritesWhole (O.written out.old) (O.written out.new) result (sheet_text sheet.now) }
+    ensures cause { HasCause (O.faults out.old) (O.faults out.new) result }
+{
+    let mut batch = Batch::new();
+    for k in 0..sheet.len() {
+        put_node(k, sheet.node(k), &mut batch, out)?;
+    }
+    batch.flush(out)
+}
+
+fn put_node<O: Sink>(
+    number: usize,
+    node: Node<'_>,
+    batch: &mut Batch,
+    out: &mut O,
+) -> Result<(), Failed>
+    ensures bytes { Puts (O.written out.old) (O.written out.new) result batch.new (batch.old ++ node_text number (node_shown node.entry)) }
+    ensures cause { HasCause (O.faults out.old) (O.faults out.new) result }
+{
+    match node {
+        Node::See { label, next } => put_observation(number, label, next, batch, out),
+        Node::All { clauses } => put_conjunction(number, clauses, batch, out),
+    }
+}
+
+fn put_observation<O: Sink>(
+    number: usize,
+    label: &str,
+    next: usize,
+    batch: &mut Batch,
+    out: &mut O,
+) -> Result<(), Failed>
+    ensures bytes { Puts (O.written out.old) (O.written out.new) result batch.new (batch.old ++ node_text number (see_node label.now next)) }
+    ensures cause { HasCause (O.faults out.old) (O.faults out.new) result }
+{
+    put_field(b"", number, b" see ", batch, out)?;
+    put_label(label, batch, out)?;
+    put_field(b" ", next, b"\n", batch, out)
+}
+
+fn put_conjunction<O: Sink>(
+    number: usize,
+    clauses: &[Clause],
+    batch: &mut Batch,
+    out: &mut O,
+) -> Result<(), Failed>
+    ensures bytes { Puts (O.written out.old) (O.written out.new) result batch.new (batch.old ++ node_text number (all_node clauses.now)) }
+    ensures cause { HasCause (O.faults out.old) (O.faults out.new) result }
+{
+    put_field(b"", number, b" all", batch, out)?;
+    for clause in clauses {
+        put_clause(*clause, batch, out)?;
+    }
+    batch.put(b"\n", out)
+}
+
+fn put_clause<O: Sink>(clause: Clause, batch: &mut Batch, out: &mut O) -> Result<(), Failed>
+    ensures bytes { Puts (O.written out.old) (O.written out.new) result batch.new (batch.old ++ clause_text clause) }
+    ensures cause { HasCause (O.faults out.old) (O.faults out.new) result }
+{
+    if clause.positive {
+        put_field(b" +", clause.node, b"", batch, out)
+    } else {
+        put_field(b" -", clause.node, b"", batch, out)
+    }
+}
+
+// Puts a number, and what stands before and behind it.
+fn put_field<O: Sink>(
+    before: &[u8],
+    number: usize,
+    behind: &[u8],
+    batch: &mut Batch,
+    out: &mut O,
+) -> Result<(), Failed>
+    ensures bytes { Puts (O.written out.old) (O.written out.new) result batch.new (batch.old ++ (before.now ++ (decimal number ++ behind.now))) }
+    ensures cause { HasCause (O.faults out.old) (O.faults out.new) result }
+{
+    batch.put(before, out)?;
+    batch.put_number(number as u64, out)?;
+    batch.put(behind, out)
+}
+
+#[cfg(test)]
+mod tests {
+    use super::print_sheet;
+    use spectro_hml::{Clause, Sheet};
+    use spectro_io::{Failed, MemSink};
+    use std::alloc::{AllocError, Global};
+    use std::test::Fail;
+
+    const TEXT: &[u8] = b"0 all\n1 see \"a\" 0\n2 all -1\n3 all +0 -1\n";
+
+    fn four_nodes(alloc: Global) -> Result<Sheet, AllocError> {
+        let not_a = Clause {
+            positive: false,
+            node: 1,
+        };
+        let true_there = Clause {
+            positive: true,
+            node: 0,
+        };
+        let mut sheet = Sheet::new(alloc);
+        sheet.push_all(&[])?;
+        sheet.push_see("a", 0)?;
+        sheet.push_all(&[not_a])?;
+        sheet.push_all(&[true_there, not_a])?;
+        Ok(sheet)
+    }
+
+    #[test]
+    fn writes_a_line_for_each_node(rt: HostRuntime) -> Result<(), Fail> {
+        let sheet = four_nodes(rt.alloc())?;
+        let mut sink = MemSink::new(rt.alloc(), 100, 7, &[])?;
+        assert_eq!(rt; print_sheet(&sheet, &mut sink), Ok(()));
+        assert_eq!(rt; sink.written(), TEXT);
+        Ok(())
+    }
+
+    #[test]
+    fn writes_nothing_where_there_is_no_node(rt: HostRuntime) -> Result<(), Fail> {
+        let mut sink = MemSink::new(rt.alloc(), 100, 7, &[])?;
+        assert_eq!(rt; print_sheet(&Sheet::new(rt.alloc()), &mut sink), Ok(()));
+        assert_eq!(rt; sink.written(), b"".as_slice());
+        Ok(())
+    }
+
+    #[test]
+    fn a_write_that_fails_leaves_a_proper_prefix(rt: HostRuntime) -> Result<(), Fail> {
+        let sheet = four_nodes(rt.alloc())?;
+        let mut sink = MemSink::new(rt.alloc(), 100, 5, &[3])?;
+        assert_eq!(rt; print_sheet(&sheet, &mut sink), Err(Failed));
+        assert_eq!(rt; sink.written(), b"0 all\n1 se".as_slice());
+        assert_eq!(rt; sink.faults(), 1);
+        Ok(())
+    }
+}
