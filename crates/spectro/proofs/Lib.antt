@@ -1,7 +1,12 @@
+pub mod Costs
 pub mod Evaluated
 pub mod Finished
 pub mod OneOutcome
+pub mod Priced
+pub mod PutLines
+pub mod ReadFronts
 pub mod Rewritten
 pub mod SystemTexts
-pub mod WrittenPieces
 pub mod Taken
+pub mod WeightTexts
+pub mod WrittenPieces

@@ -1,39 +1,40 @@
--- The words and the texts have at most one outcome: by the order of refusals, since a text is of at most one system or
--- formula, and a truth has one answer.
-use Rattle.std.proofs.Common.{◌≡◌, ◌∙◌, ℕ, List, [], refl, sym, ap, subst}
+-- The words and the texts have at most one outcome: by the order of refusals, since a text is of at most one system,
+-- formula or weighing, and a truth has one answer.
+use Rattle.std.proofs.Common.{◌≡◌, ◌∙◌, ℕ, List, refl, sym, ap, subst}
 use Rattle.std.specs.Prelude.{Bool, true, false, IsTrue, ◌↔◌, Option, None, Some}
-use Rattle.spectro_spec.specs.System.{System, Label}
+use Rattle.std.proofs.lemmas.Option.{same_Some}
 use Rattle.spectro_spec.specs.Formula.{Formula, Satisfies}
 use Rattle.spectro_spec.specs.Pricing.{price}
+use Rattle.spectro_spec.specs.Weighing.{Weighing}
 use Rattle.spectro_io.specs.Shelves.{Texts}
 use Rattle.spectro_aut.specs.Laws.{SystemsAreOne, FirstFaultsAreOne, TextsHaveNoFault}
 use Rattle.spectro_aut.specs.Written.{text_of}
-use Rattle.spectro_hml.specs.Chain.{formula_of}
-use Rattle.spectro_hml.specs.Grammar.{IsPlainFormula}
+use Rattle.spectro_hmltext.specs.Laws as formulas
+use Rattle.spectro_hmltext.specs.FormulaTexts.{IsFormulaText}
+use Rattle.spectro_hmltext.specs.Printed.{formula_text}
+use Rattle.spectro_hmltext.specs.declared.error.TextFault.{TextFault}
+use Rattle.spectro_weights.specs.Laws as weightings
+use Rattle.spectro_weights.specs.WeightTexts.{IsWeightText}
+use Rattle.spectro_weights.specs.declared.error.WeightFault.{WeightFault}
 use Rattle.spectro.specs.declared.status.Status.{Status}
-use Rattle.spectro.specs.declared.status.Which.TheVariants.{Left}
-use Rattle.spectro.specs.Refusals.{RefusesFormula}
-use Rattle.spectro.specs.Commands.Eval.{EvalGives, SaysTruth, no_system, no_formula, answered, eval_text}
+use Rattle.spectro.specs.declared.status.Status.TheVariants.{BadText}
+use Rattle.spectro.specs.declared.status.Which.TheVariants.{Left, Formula as FormulaText, Weights}
+use Rattle.spectro.specs.declared.status.Kind.TheVariants as kinds
+use Rattle.spectro.specs.Refusals.{RefusesFormula, RefusesWeighing}
+use Rattle.spectro.specs.Weighted.{GivesWeighing, RefusesHeld, RefusesWeights, parts_shown}
+use Rattle.spectro.specs.Commands.Eval.{EvalGives, SaysTruth, no_system, no_formula, no_weights, answered, eval_text}
+use Rattle.spectro.specs.Commands.Price as pricing
 use Rattle.spectro.specs.Commands.Rewrite as rewriting
 use Rattle.spectro.specs.Files.{FileOutcome}
 use Rattle.spectro.specs.Outcome.{CommandOutcome}
-use Rattle.spectro.specs.Words.{Command, eval, rewrite}
+use Rattle.spectro.specs.Words as words
+use Rattle.spectro.specs.Words.{Word, Command}
 use Rattle.spectro.proofs.SystemTexts.{refused_text, same_refusal}
 
 -- the same status, and the same bytes
 pub record AreSame (one other : Status) (bytes more : List ℕ) : Type 0 where
   pub status : one ≡ other
   pub output : bytes ≡ more
-
-same_fault : (text : List ℕ) (one other : Status) → RefusesFormula text one → RefusesFormula text other → one ≡ other
-same_fault text one other first second =
-    let place = first.1.at in
-    let places = second.1.at in
-    let kind = first.1.kind in
-    let kinds = second.1.kind in
-    let a = first.2 in
-    let b = second.2 in
-    cc
 
 -- two tests of one fact answer alike
 same_answer : (P : Type 0) (one other : Bool) → (IsTrue one ↔ P) → (IsTrue other ↔ P) → one ≡ other
@@ -42,11 +43,6 @@ same_answer P true false first second = let wrong : IsTrue false = second.1 (fir
 same_answer P false true first second = let wrong : IsTrue false = first.1 (second.0 refl) in cc
 same_answer P false false first second = refl
 
-same_truth : (system : System) (formula : Formula) (bytes more : List ℕ) → SaysTruth system formula bytes → SaysTruth system formula more → bytes ≡ more
-same_truth system formula bytes more first second =
-    let answer = same_answer (Satisfies system system.initial formula) first.0 second.0 first.1 second.1 in
-    first.2 ∙ ap (λ b. eval_text b (price [] formula)) answer ∙ sym second.2
-
 -- where each text has one outcome, a file has one
 one_of_file : (gives : List ℕ → Status → List ℕ → Type 0)
     → ((text bytes more : List ℕ) (one other : Status) → gives text one bytes → gives text other more → AreSame one other bytes more)
@@ -54,26 +50,109 @@ one_of_file : (gives : List ℕ → Status → List ℕ → Type 0)
 one_of_file gives one_of_text None bytes more one other first second = record { status = first.0 ∙ sym second.0; output = first.1 ∙ sym second.1 }
 one_of_file gives one_of_text (Some text) bytes more one other first second = one_of_text text bytes more one other first second
 
+-- ---- the text of a formula
+module _ (one_formula : formulas.FormulasAreOne) (one_fault : formulas.FirstFaultsAreOne) (no_fault : formulas.TextsHaveNoFault) where
+  same_formula_refusal : (text : List ℕ) (one other : Status) → RefusesFormula text one → RefusesFormula text other → one ≡ other
+  same_formula_refusal text one other first second =
+      let same : first.0 ≡ second.0 = one_fault text first.0 second.0 first.1 second.1 in
+      first.2 ∙ ap (λ (fault : TextFault). BadText (record { which = FormulaText; at = fault.at; kind = kinds.Formula fault.kind })) same ∙ sym second.2
+
+  refused_formula : (text : List ℕ) (formula : Formula) (status : Status) → IsFormulaText text formula → RefusesFormula text status → ⊥
+  refused_formula text formula status is refused = no_fault text formula refused.0 is refused.1
+
+-- ---- the text of weights
+module _ (one_weighing : weightings.WeighingsAreOne) (one_fault : weightings.FirstFaultsAreOne) (no_fault : weightings.TextsHaveNoFault) where
+  same_weighing : (texts : Texts) (weights : Option Word) (one other : Weighing) → GivesWeighing texts weights one → GivesWeighing texts weights other → one ≡ other
+  same_weighing texts None one other first second = first ∙ sym second
+  same_weighing texts (Some name) one other first second =
+      let text : first.0 ≡ second.0 = same_Some first.0 second.0 (sym first.1 ∙ second.1) in
+      one_weighing second.0 one other (subst (λ text. IsWeightText text one) text first.2) second.2
+
+  same_held_refusal : (held : Option (List ℕ)) (one other : Status) → RefusesHeld held one → RefusesHeld held other → one ≡ other
+  same_held_refusal None one other first second = first ∙ sym second
+  same_held_refusal (Some text) one other first second =
+      let same : first.0 ≡ second.0 = one_fault text first.0 second.0 first.1 second.1 in
+      first.2 ∙ ap (λ (fault : WeightFault). BadText (record { which = Weights; at = fault.line; kind = kinds.Weights fault.kind })) same ∙ sym second.2
+
+  same_weights_refusal : (texts : Texts) (weights : Option Word) (one other : Status) → RefusesWeights texts weights one → RefusesWeights texts weights other → one ≡ other
+  same_weights_refusal texts None one other first second = absurd first
+  same_weights_refusal texts (Some name) one other first second = same_held_refusal (texts name) one other first second
+
+  refused_weights : (texts : Texts) (weights : Option Word) (weighing : Weighing) (status : Status) → GivesWeighing texts weights weighing → RefusesWeights texts weights status → ⊥
+  refused_weights texts None weighing status gives refused = refused
+  refused_weights texts (Some name) weighing status gives refused =
+      let held : RefusesWeighing gives.0 status = subst (λ held. RefusesHeld held status) gives.1 refused in
+      no_fault gives.0 weighing held.0 gives.2 held.1
+
 module _
     (one_system : SystemsAreOne)
     (one_fault : FirstFaultsAreOne)
     (no_fault : TextsHaveNoFault)
-    (one_chain : (text : List ℕ) (one other : List Label) → IsPlainFormula text one → IsPlainFormula text other → one ≡ other)
+    (one_formula : formulas.FormulasAreOne)
+    (one_formula_fault : formulas.FirstFaultsAreOne)
+    (no_formula_fault : formulas.TextsHaveNoFault)
+    (one_weighing : weightings.WeighingsAreOne)
+    (one_weight_fault : weightings.FirstFaultsAreOne)
+    (no_weight_fault : weightings.TextsHaveNoFault)
   where
-    one_answer : (formula text bytes more : List ℕ) (one other : Status) → EvalGives formula text one bytes → EvalGives formula text other more → AreSame one other bytes more
-    one_answer formula text bytes more one other (no_system first none) (no_system second none') = record { status = same_refusal one_fault Left text one other first second; output = none ∙ sym none' }
-    one_answer formula text bytes more one other (no_system first none) (no_formula system is second none') = absurd (refused_text no_fault Left text one system first is)
-    one_answer formula text bytes more one other (no_system first none) (answered system labels is is_formula done says) = absurd (refused_text no_fault Left text one system first is)
-    one_answer formula text bytes more one other (no_formula system is first none) (no_system second none') = absurd (refused_text no_fault Left text other system second is)
-    one_answer formula text bytes more one other (no_formula system is first none) (no_formula system' is' second none') = record { status = same_fault formula one other first second; output = none ∙ sym none' }
-    one_answer formula text bytes more one other (no_formula system is first none) (answered system' labels is' is_formula done says) = absurd (first.1.no_chain labels is_formula)
-    one_answer formula text bytes more one other (answered system labels is is_formula done says) (no_system second none') = absurd (refused_text no_fault Left text other system second is)
-    one_answer formula text bytes more one other (answered system labels is is_formula done says) (no_formula system' is' second none') = absurd (second.1.no_chain labels is_formula)
-    one_answer formula text bytes more one other (answered system labels is is_formula done says) (answered system' labels' is' is_formula' done' says') =
-        let system_same : system' ≡ system = one_system text system' system is' is in
-        let labels_same : labels' ≡ labels = one_chain formula labels' labels is_formula' is_formula in
-        let says_same : SaysTruth system (formula_of labels) more = subst (λ l. SaysTruth system (formula_of l) more) labels_same (subst (λ s. SaysTruth s (formula_of labels') more) system_same says') in
-        record { status = done ∙ sym done'; output = same_truth system (formula_of labels) bytes more says says_same }
+    module _ (texts : Texts) (word : Word) (weights : Option Word) where
+      one_answer : (text bytes more : List ℕ) (one other : Status) → EvalGives texts word weights text one bytes → EvalGives texts word weights text other more → AreSame one other bytes more
+      one_answer text bytes more one other (no_system first none) (no_system second none') = record { status = same_refusal one_fault Left text one other first second; output = none ∙ sym none' }
+      one_answer text bytes more one other (no_system first none) (no_formula system is second none') = absurd (refused_text no_fault Left text one system first is)
+      one_answer text bytes more one other (no_system first none) (no_weights system formula is is_formula second none') = absurd (refused_text no_fault Left text one system first is)
+      one_answer text bytes more one other (no_system first none) (answered system formula weighing is is_formula weighed done says) = absurd (refused_text no_fault Left text one system first is)
+      one_answer text bytes more one other (no_formula system is first none) (no_system second none') = absurd (refused_text no_fault Left text other system second is)
+      one_answer text bytes more one other (no_formula system is first none) (no_formula system' is' second none') =
+          record { status = same_formula_refusal one_formula one_formula_fault no_formula_fault word one other first second; output = none ∙ sym none' }
+      one_answer text bytes more one other (no_formula system is first none) (no_weights system' formula is' is_formula second none') =
+          absurd (refused_formula one_formula one_formula_fault no_formula_fault word formula one is_formula first)
+      one_answer text bytes more one other (no_formula system is first none) (answered system' formula weighing is' is_formula weighed done says) =
+          absurd (refused_formula one_formula one_formula_fault no_formula_fault word formula one is_formula first)
+      one_answer text bytes more one other (no_weights system formula is is_formula first none) (no_system second none') = absurd (refused_text no_fault Left text other system second is)
+      one_answer text bytes more one other (no_weights system formula is is_formula first none) (no_formula system' is' second none') =
+          absurd (refused_formula one_formula one_formula_fault no_formula_fault word formula other is_formula second)
+      one_answer text bytes more one other (no_weights system formula is is_formula first none) (no_weights system' formula' is' is_formula' second none') =
+          record { status = same_weights_refusal one_weighing one_weight_fault no_weight_fault texts weights one other first second; output = none ∙ sym none' }
+      one_answer text bytes more one other (no_weights system formula is is_formula first none) (answered system' formula' weighing is' is_formula' weighed done says) =
+          absurd (refused_weights one_weighing one_weight_fault no_weight_fault texts weights weighing one weighed first)
+      one_answer text bytes more one other (answered system formula weighing is is_formula weighed done says) (no_system second none') = absurd (refused_text no_fault Left text other system second is)
+      one_answer text bytes more one other (answered system formula weighing is is_formula weighed done says) (no_formula system' is' second none') =
+          absurd (refused_formula one_formula one_formula_fault no_formula_fault word formula other is_formula second)
+      one_answer text bytes more one other (answered system formula weighing is is_formula weighed done says) (no_weights system' formula' is' is_formula' second none') =
+          absurd (refused_weights one_weighing one_weight_fault no_weight_fault texts weights weighing other weighed second)
+      one_answer text bytes more one other (answered system formula weighing is is_formula weighed done says) (answered system' formula' weighing' is' is_formula' weighed' done' says') =
+          let system_same : system' ≡ system = one_system text system' system is' is in
+          let formula_same : formula' ≡ formula = one_formula word formula' formula is_formula' is_formula in
+          let weighing_same : weighing' ≡ weighing = same_weighing one_weighing one_weight_fault no_weight_fault texts weights weighing' weighing weighed' weighed in
+          let says_same : SaysTruth system formula weighing (parts_shown weights) more =
+          subst (λ w. SaysTruth system formula w (parts_shown weights) more) weighing_same
+          (subst (λ f. SaysTruth system f weighing' (parts_shown weights) more) formula_same (subst (λ s. SaysTruth s formula' weighing' (parts_shown weights) more) system_same says')) in
+          let truth = same_answer (Satisfies system system.initial formula) says.0 says_same.0 says.1 says_same.1 in
+          record { status = done ∙ sym done'; output = says.2 ∙ ap (λ answer. eval_text answer (parts_shown weights) (price weighing formula)) truth ∙ sym says_same.2 }
+
+      one_pricing : (bytes more : List ℕ) (one other : Status) → pricing.PriceGives texts word weights one bytes → pricing.PriceGives texts word weights other more → AreSame one other bytes more
+      one_pricing bytes more one other (pricing.no_formula first none) (pricing.no_formula second none') =
+          record { status = same_formula_refusal one_formula one_formula_fault no_formula_fault word one other first second; output = none ∙ sym none' }
+      one_pricing bytes more one other (pricing.no_formula first none) (pricing.no_weights formula is_formula second none') = absurd (refused_formula one_formula one_formula_fault no_formula_fault word formula one is_formula first)
+      one_pricing bytes more one other (pricing.no_formula first none) (pricing.priced formula weighing is_formula weighed done says) =
+          absurd (refused_formula one_formula one_formula_fault no_formula_fault word formula one is_formula first)
+      one_pricing bytes more one other (pricing.no_weights formula is_formula first none) (pricing.no_formula second none') = absurd (refused_formula one_formula one_formula_fault no_formula_fault word formula other is_formula second)
+      one_pricing bytes more one other (pricing.no_weights formula is_formula first none) (pricing.no_weights formula' is_formula' second none') =
+          record { status = same_weights_refusal one_weighing one_weight_fault no_weight_fault texts weights one other first second; output = none ∙ sym none' }
+      one_pricing bytes more one other (pricing.no_weights formula is_formula first none) (pricing.priced formula' weighing is_formula' weighed done says) =
+          absurd (refused_weights one_weighing one_weight_fault no_weight_fault texts weights weighing one weighed first)
+      one_pricing bytes more one other (pricing.priced formula weighing is_formula weighed done says) (pricing.no_formula second none') =
+          absurd (refused_formula one_formula one_formula_fault no_formula_fault word formula other is_formula second)
+      one_pricing bytes more one other (pricing.priced formula weighing is_formula weighed done says) (pricing.no_weights formula' is_formula' second none') =
+          absurd (refused_weights one_weighing one_weight_fault no_weight_fault texts weights weighing other weighed second)
+      one_pricing bytes more one other (pricing.priced formula weighing is_formula weighed done says) (pricing.priced formula' weighing' is_formula' weighed' done' says') =
+          let formula_same : formula ≡ formula' = one_formula word formula formula' is_formula is_formula' in
+          let weighing_same : weighing ≡ weighing' = same_weighing one_weighing one_weight_fault no_weight_fault texts weights weighing weighing' weighed weighed' in
+          record {
+            status = done ∙ sym done';
+            output = says ∙ ap (λ f. pricing.priced_text (formula_text f) (parts_shown weights) (price weighing f)) formula_same
+                ∙ ap (λ w. pricing.priced_text (formula_text formula') (parts_shown weights) (price w formula')) weighing_same ∙ sym says';
+          }
 
     one_rewriting : (text bytes more : List ℕ) (one other : Status) → rewriting.RewriteGives text one bytes → rewriting.RewriteGives text other more → AreSame one other bytes more
     one_rewriting text bytes more one other (rewriting.no_system first none) (rewriting.no_system second none') = record { status = same_refusal one_fault Left text one other first second; output = none ∙ sym none' }
@@ -84,5 +163,7 @@ module _
 
     pub one_of_command : (asked : Option Command) (texts : Texts) (one other : Status) (bytes more : List ℕ) → CommandOutcome asked texts one bytes → CommandOutcome asked texts other more → AreSame one other bytes more
     one_of_command None texts one other bytes more first second = record { status = first.0 ∙ sym second.0; output = first.1 ∙ sym second.1 }
-    one_of_command (Some (eval formula file)) texts one other bytes more first second = one_of_file (EvalGives formula) (one_answer formula) (texts file) bytes more one other first second
-    one_of_command (Some (rewrite file)) texts one other bytes more first second = one_of_file rewriting.RewriteGives one_rewriting (texts file) bytes more one other first second
+    one_of_command (Some (words.eval formula file weights)) texts one other bytes more first second =
+        one_of_file (EvalGives texts formula weights) (one_answer texts formula weights) (texts file) bytes more one other first second
+    one_of_command (Some (words.rewrite file)) texts one other bytes more first second = one_of_file rewriting.RewriteGives one_rewriting (texts file) bytes more one other first second
+    one_of_command (Some (words.price formula weights)) texts one other bytes more first second = one_pricing texts formula weights bytes more one other first second

@@ -1,7 +1,5 @@
 -- The texts of systems: what is read of a text is accepted or refused just as the whole is.
-use Rattle.std.proofs.Common.{◌≡◌, ◌∙◌, ℕ, ◌<◌, List, take, length, sym, ap, subst, arith, inl, inr}
-use Rattle.std.proofs.lemmas.Bool.{cases_lt}
-use Rattle.std.proofs.lemmas.List.{take_all}
+use Rattle.std.proofs.Common.{◌≡◌, ◌∙◌, ℕ, List, take, sym, ap}
 use Rattle.spectro_io.specs.Limits.{read_limit}
 use Rattle.spectro_spec.specs.System.{System}
 use Rattle.spectro_aut.specs.Faults.{IsFirstFault}
@@ -13,23 +11,14 @@ use Rattle.spectro.specs.declared.status.Status.TheVariants.{BadText}
 use Rattle.spectro.specs.declared.status.Which.{Which}
 use Rattle.spectro.specs.declared.status.Kind.TheVariants as kinds
 use Rattle.spectro.specs.Refusals.{IsTextOf, RefusesSystem}
-
--- of a text that is shorter than the limit the whole is read
-front_text : (limit : ℕ) (text bytes : List ℕ) → bytes ≡ take limit text → length text < limit → bytes ≡ text
-front_text limit text bytes front less = front ∙ take_all limit text (omega arith)
+use Rattle.spectro.proofs.ReadFronts.{whole_from_front}
 
 -- what is read is the text of a system, and no more stands behind it
 pub IsTextOf-whole : (text bytes : List ℕ) (system : System) → bytes ≡ take read_limit text → IsTextOf bytes system → IsTextOf text system
-IsTextOf-whole text bytes system front is = elim (cases_lt (length text) read_limit) [
-  | inl short ↦ subst (λ t. IsTextOf t system) (front_text read_limit text bytes front short) is
-  | inr long ↦ absurd (read_front_no_text text system (subst (λ t. IsTextOf t system) front is) long)
-]
+IsTextOf-whole text bytes system front is = whole_from_front (λ text. IsTextOf text system) text bytes front (λ long is. absurd (read_front_no_text text system is long)) is
 
 fault-whole : (text bytes : List ℕ) (fault : AutFault) → bytes ≡ take read_limit text → IsFirstFault bytes fault → IsFirstFault text fault
-fault-whole text bytes fault front is = elim (cases_lt (length text) read_limit) [
-  | inl short ↦ subst (λ t. IsFirstFault t fault) (front_text read_limit text bytes front short) is
-  | inr long ↦ fault_of_read_front text fault (subst (λ t. IsFirstFault t fault) front is) long
-]
+fault-whole text bytes fault front is = whole_from_front (λ text. IsFirstFault text fault) text bytes front (λ long is. fault_of_read_front text fault is long) is
 
 -- a text that is longer than is read is refused just as its front is
 pub RefusesSystem-whole : (which : Which) (text bytes : List ℕ) (status : Status) → bytes ≡ take read_limit text → RefusesSystem which bytes status → RefusesSystem which text status

@@ -1,8 +1,17 @@
--- The commands of the code as commands of the definitions.
+-- The words and commands of the code as those of the definitions.
+use Rattle.std.specs.Prelude.{ℕ, List, Option}
+use Rattle.std.specs.Borrow.{Bor}
+use Rattle.std.specs.Option.{option_map}
 use Rattle.spectro.specs.Words as words
+use Rattle.spectro.specs.Words.{Word}
 use Rattle.spectro.specs.declared.words.Command.{Command}
-use Rattle.spectro.specs.declared.words.Command.TheVariants.{Eval, Rewrite}
+use Rattle.spectro.specs.declared.words.Command.TheVariants.{Eval, Rewrite, Price}
+
+-- the name of a file, if one is given
+abbrev pub named : Option (Bor (List ℕ)) → Option Word
+named name = option_map (λ name. name.now) name
 
 abbrev pub asked : Command → words.Command
-asked (Eval formula file) = words.eval formula.now file.now
+asked (Eval formula file weights) = words.eval formula.now file.now (named weights)
 asked (Rewrite file) = words.rewrite file.now
+asked (Price formula weights) = words.price formula.now (named weights)

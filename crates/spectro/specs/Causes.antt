@@ -4,7 +4,7 @@ use Rattle.spectro_io.specs.Faults.{Rose}
 use Rattle.spectro_io.specs.Limits.{read_limit}
 use Rattle.spectro_io.specs.Shelves.{Texts}
 use Rattle.spectro_aut.specs.Feeding.{Fed, HasTaken}
-use Rattle.spectro.specs.Words.{Word, Command, eval, rewrite}
+use Rattle.spectro.specs.Words.{Word, Command, eval, rewrite, price}
 use Rattle.spectro.specs.declared.status.Status.{Status}
 use Rattle.spectro.specs.declared.status.Status.TheVariants.{Usage, ReadFault, WriteFault, OutOfMemory}
 
@@ -31,11 +31,17 @@ IsUnread told name before now status = (status ≡ ReadFault) × (Rose before no
 abbrev pub OrMemory : (Status → Type 0) → Status → Type 0
 OrMemory P status = (status ≡ OutOfMemory) ⊎ P status
 
+-- the file of weights, where one is asked for, holds nothing
+abbrev pub LacksWeights : Option Texts → Option Word → Type 0
+LacksWeights told None = ⊥
+LacksWeights told (Some name) = HoldsNothing told name
+
 -- a file of the command holds nothing
 abbrev pub LacksFile : Option Texts → Option Command → Type 0
 LacksFile told None = ⊥
-LacksFile told (Some (eval formula file)) = HoldsNothing told file
+LacksFile told (Some (eval formula file weights)) = HoldsNothing told file ⊎ LacksWeights told weights
 LacksFile told (Some (rewrite file)) = HoldsNothing told file
+LacksFile told (Some (price formula weights)) = LacksWeights told weights
 
 -- how often the devices had failed before the call, and after it
 pub record Counts : Type 0 where

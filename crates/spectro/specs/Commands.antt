@@ -1,3 +1,4 @@
 -- What each command gives, one file a command.
 pub mod Eval
 pub mod Rewrite
+pub mod Price

@@ -2,11 +2,13 @@ pub mod Feeds
 pub mod Words
 pub mod Asked
 pub mod Refusals
+pub mod Weighted
 pub mod Files
 pub mod Notation
 pub mod Commands
 pub mod Outcome
 pub mod Causes
+pub mod Stops
 pub mod Codes
 pub mod Pieces
 pub mod Messages

@@ -5,32 +5,37 @@ use Rattle.std.specs.Io.KnownBytes.{Appends}
 use Rattle.spectro_io.specs.Bytes.{AppendsPart}
 use Rattle.spectro_io.specs.Faults.{Rose}
 use Rattle.spectro_aut.specs.Kinds as aut
-use Rattle.spectro_hml.specs.Kinds as hml
-use Rattle.spectro.specs.Words.{Word, Command, eval, rewrite, command}
+use Rattle.spectro_hmltext.specs.Kinds as hmltext
+use Rattle.spectro_weights.specs.Kinds as weights
+use Rattle.spectro.specs.Words.{Word, Command, eval, rewrite, price, command}
 use Rattle.spectro.specs.declared.status.BadText as declared
 use Rattle.spectro.specs.declared.status.Kind.{Kind}
 use Rattle.spectro.specs.declared.status.Kind.TheVariants as kinds
 use Rattle.spectro.specs.declared.status.Status.{Status}
 use Rattle.spectro.specs.declared.status.Status.TheVariants.{Done, No, Usage, BadText, TooLarge, ReadFault, WriteFault, OutOfMemory}
 use Rattle.spectro.specs.declared.status.Which.{Which}
-use Rattle.spectro.specs.declared.status.Which.TheVariants.{Left, Formula}
+use Rattle.spectro.specs.declared.status.Which.TheVariants.{Left, Formula, Weights}
 
 -- how a text of the command is called: a file by its name, the formula by that word, and a text that it has not by nothing
 abbrev pub text_name : Which → Option Command → List ℕ
 text_name Formula asked = codes "formula"
-text_name Left (Some (eval formula file)) = file
+text_name Left (Some (eval formula file weights)) = file
 text_name Left (Some (rewrite file)) = file
+text_name Weights (Some (eval formula file (Some name))) = name
+text_name Weights (Some (price formula (Some name))) = name
 text_name which asked = []
 
 -- the name of the kind, whichever text it is of
 abbrev pub kind_name : Kind → List ℕ
 kind_name (kinds.Aut kind) = aut.kind_name kind
-kind_name (kinds.Formula kind) = hml.kind_name kind
+kind_name (kinds.Formula kind) = hmltext.kind_name kind
+kind_name (kinds.Weights kind) = weights.kind_name kind
 
 -- how many lines the header said and how many were found, where the kind tells it
 abbrev pub counts_text : Kind → List ℕ
 counts_text (kinds.Aut kind) = aut.counts_text kind
 counts_text (kinds.Formula kind) = []
+counts_text (kinds.Weights kind) = []
 
 -- where a text of this name was refused, and why
 abbrev pub fault_text : List ℕ → declared.BadText → List ℕ

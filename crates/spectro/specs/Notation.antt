@@ -1,12 +1,11 @@
--- How truth and prices are written.
-use Rattle.std.specs.Prelude.{ℕ, Bool, List, map, take, codes, if◌then◌else◌}
-use Rattle.std.specs.Fmt.{decimal}
-use Rattle.std.specs.List.{join_with_byte}
-use Rattle.spectro_spec.specs.Price.{Price, parts}
+-- How truth and prices are written, each in a line.
+use Rattle.std.specs.Prelude.{ℕ, Bool, List, ◌++◌, codes, if◌then◌else◌}
+use Rattle.spectro_spec.specs.Price.{Price}
+use Rattle.spectro_energy.specs.declared.parts.Parts.{Parts}
+use Rattle.spectro_notation.specs.Prices.{price_text}
 
-abbrev pub truth_text : Bool → List ℕ
-truth_text answer = if answer then codes "true" else codes "false"
+abbrev pub truth_line : Bool → List ℕ
+truth_line answer = if answer then codes "true\n" else codes "false\n"
 
--- the first six parts in decimal, with one space between them
-abbrev pub price_text : Price → List ℕ
-price_text e = join_with_byte 32 (map decimal (take 6 (parts e)))
+abbrev pub price_line : Parts → Price → List ℕ
+price_line parts e = codes "price " ++ price_text parts e ++ codes "\n"

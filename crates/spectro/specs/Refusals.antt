@@ -4,12 +4,14 @@ use Rattle.spectro_spec.specs.System.{System}
 use Rattle.spectro_aut.specs.Faults as aut
 use Rattle.spectro_aut.specs.Grammar.{IsText}
 use Rattle.spectro_aut.specs.declared.error.AutFault.{AutFault}
-use Rattle.spectro_hml.specs.Faults as hml
-use Rattle.spectro_hml.specs.declared.error.TextFault.{TextFault}
+use Rattle.spectro_hmltext.specs.Faults as hmltext
+use Rattle.spectro_hmltext.specs.declared.error.TextFault.{TextFault}
+use Rattle.spectro_weights.specs.Faults as weights
+use Rattle.spectro_weights.specs.declared.error.WeightFault.{WeightFault}
 use Rattle.spectro.specs.declared.status.Status.{Status}
 use Rattle.spectro.specs.declared.status.Status.TheVariants.{BadText}
 use Rattle.spectro.specs.declared.status.Which.{Which}
-use Rattle.spectro.specs.declared.status.Which.TheVariants.{Formula}
+use Rattle.spectro.specs.declared.status.Which.TheVariants.{Formula, Weights}
 use Rattle.spectro.specs.declared.status.Kind.TheVariants as kinds
 
 -- the text is one of the system
@@ -20,6 +22,10 @@ IsTextOf text system = IsText text system
 abbrev pub RefusesSystem : Which → List ℕ → Status → Type 0
 RefusesSystem which text status = (fault : AutFault) × aut.IsFirstFault text fault × (status ≡ BadText (record { which = which; at = fault.line; kind = kinds.Aut fault.kind }))
 
--- the text is of no formula, and the status says where and why
+-- the text is of no formula, and the status says where its first fault is, and which it is
 abbrev pub RefusesFormula : List ℕ → Status → Type 0
-RefusesFormula text status = (fault : TextFault) × hml.IsNotPlain text fault × (status ≡ BadText (record { which = Formula; at = fault.at; kind = kinds.Formula fault.kind }))
+RefusesFormula text status = (fault : TextFault) × hmltext.IsFirstFault text fault × (status ≡ BadText (record { which = Formula; at = fault.at; kind = kinds.Formula fault.kind }))
+
+-- the text is of no weighing, and the status says which line has the first fault, and which it is
+abbrev pub RefusesWeighing : List ℕ → Status → Type 0
+RefusesWeighing text status = (fault : WeightFault) × weights.IsFirstFault text fault × (status ≡ BadText (record { which = Weights; at = fault.line; kind = kinds.Weights fault.kind }))

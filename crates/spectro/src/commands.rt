@@ -1,4 +1,5 @@
 //! What each command does, one file a command.
 
 pub mod eval;
+pub mod price;
 pub mod rewrite;

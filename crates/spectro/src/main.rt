@@ -2,6 +2,7 @@
 #![tactic(auto)]
 
 mod commands;
+mod cost;
 mod devices;
 mod message;
 mod output;

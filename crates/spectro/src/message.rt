@@ -18,6 +18,19 @@ fn text_name<'a>(which: Which, command: Option<Command<'a>>) -> &'a str
     match (which, command) {
         (Which::Formula, _) => "formula",
         (Which::Left, Some(Command::Eval { file, .. } | Command::Rewrite { file })) => file,
+        (
+            Which::Weights,
+            Some(
+                Command::Eval {
+                    weights: Some(name),
+                    ..
+                }
+                | Command::Price {
+                    weights: Some(name),
+                    ..
+                },
+            ),
+        ) => name,
         _ => "",
     }
 }

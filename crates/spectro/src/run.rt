@@ -7,6 +7,7 @@ ghost use Rattle.spectro.specs.Outcome.{Answers, CommandOutcome, IsOutcome, IsSi
 ghost use Rattle.spectro.specs.Words.{command, words_of};
 
 use crate::commands::eval::eval;
+use crate::commands::price::price;
 use crate::commands::rewrite::rewrite;
 use crate::message::write_message;
 use crate::status::Status;
@@ -29,16 +30,23 @@ fn perform<H: Shelf, O: Sink>(
 {
     match command {
         None => Status::Usage,
-        Some(Command::Eval { formula, file }) => eval(alloc, formula, file, shelf, out),
+        Some(
+            Command::Eval {
+                formula,
+                file,
+                weights,
+            },
+        ) => eval(alloc, formula, file, weights, shelf, out),
         Some(Command::Rewrite { file }) => rewrite(alloc, file, shelf, out),
+        Some(Command::Price { formula, weights }) => price(alloc, formula, weights, shelf, out),
     }
 }
 
 /// Does what the words ask for, over the devices, and writes the message of how it ended.
 ///
-/// The order is: the words; opening and reading the file, then its grammar; the formula; the writing. The
-/// first refusal that is met is the answer. All memory is taken before the first byte is written. A message
-/// that cannot be written changes nothing of the answer.
+/// The order is: the words; opening and reading the file, then its grammar; the formula; opening and reading the
+/// weights, then their grammar; the writing. The first refusal that is met is the answer. All memory is taken before
+/// the first byte is written. A message that cannot be written changes nothing of the answer.
 pub fn run<H: Shelf, I: Source, O: Sink, E: Sink>(
     alloc: Global,
     words: &[String],

@@ -4,7 +4,8 @@ ghost use Rattle.spectro.specs.Messages.{kind_name};
 ghost use Rattle.spectro.specs.declared.status.Status.TheVariants.{OutOfMemory};
 
 use spectro_aut::AutKind;
-use spectro_hml::TextKind;
+use spectro_hmltext::TextKind;
+use spectro_weights::WeightKind;
 use std::alloc::AllocError;
 
 /// How a run ended.
@@ -43,6 +44,7 @@ pub enum Which {
     Right,
     Formula,
     Certificate,
+    Weights,
 }
 
 /// Why a text was refused.
@@ -50,6 +52,7 @@ pub enum Which {
 pub enum Kind {
     Aut(AutKind),
     Formula(TextKind),
+    Weights(WeightKind),
 }
 
 impl Kind {
@@ -60,6 +63,7 @@ impl Kind {
         match self {
             Kind::Aut(kind) => kind.name(),
             Kind::Formula(kind) => kind.name(),
+            Kind::Weights(kind) => kind.name(),
         }
     }
 }

@@ -3,6 +3,7 @@
 mod devices;
 mod eval;
 mod messages;
+mod price;
 mod rewrite;
 
 use crate::run::run;
@@ -28,13 +29,21 @@ const CUT: &str = "des (0,1,2)\n(0,a";
 // The header promises a line more.
 const SHORT: &str = "des (0,3,2)\n(0,a,1)\n(0,b,1)\n";
 
-const FILES: [(&str, &str); 6] = [
+// The label a costs nothing, and b costs five.
+const WEIGHTS: &str = "0 \"a\"\n5 \"b\"\n";
+
+// The second line weighs a label again.
+const TWICE: &str = "1 \"a\"\n2 \"a\"\n";
+
+const FILES: [(&str, &str); 8] = [
     ("stopped.aut", STOPPED),
     ("choice.aut", CHOICE),
     ("early.aut", EARLY_CHOICE),
     ("gates.aut", GATES),
     ("cut.aut", CUT),
     ("short.aut", SHORT),
+    ("weights.txt", WEIGHTS),
+    ("twice.txt", TWICE),
 ];
 
 // How a run ended, and what it wrote.

@@ -1,18 +1,23 @@
 //! The texts that commands ask for: read from the shelf to their ends, and then taken as what they stand for.
 
-ghost use Rattle.std.specs.Prelude.{◌≡◌, ◌≤◌, ℕ, List, IfOk, IfErr, IsErrOf};
+ghost use Rattle.std.specs.Prelude.{◌≡◌, ◌≤◌, ℕ, List, IfOk, IfErr, IfSome, IsErrOf};
 ghost use Rattle.spectro_io.specs.Faults.{Rose};
 ghost use Rattle.spectro_aut.specs.Feeding.{HasTaken};
-ghost use Rattle.spectro_hml.specs.Grammar.{IsPlainFormula};
-ghost use Rattle.spectro.specs.Causes.{HasTakenText, OrMemory, IsUnread};
+ghost use Rattle.spectro_hmltext.specs.Parsing.{IsParsed};
+ghost use Rattle.spectro_weights.specs.WeightTexts.{IsWeightText};
+ghost use Rattle.spectro.specs.Asked.{named};
+ghost use Rattle.spectro.specs.Causes.{HasRead, HasTakenText, LacksWeights, OrMemory, IsUnread};
 ghost use Rattle.spectro.specs.Feeds.{TakesAll};
-ghost use Rattle.spectro.specs.Refusals.{IsTextOf, RefusesSystem, RefusesFormula};
+ghost use Rattle.spectro.specs.Refusals.{IsTextOf, RefusesSystem, RefusesFormula, RefusesWeighing};
+ghost use Rattle.spectro.specs.Stops.{IsStopped};
+ghost use Rattle.spectro.specs.Weighted.{GivesWeighing, RefusesWeights};
 
 use crate::status::{BadText, Kind, Status, Which};
 use spectro_aut::{AutError, Feed};
-use spectro_hml::{Chain, ParseError};
-use spectro_io::{READ_LIMIT, ReadError, Shelf, Source};
+use spectro_hmltext::{ParseError, Parsed, parse};
+use spectro_io::{READ_LIMIT, ReadError, Shelf, Source, read_all};
 use spectro_lts::Lts;
+use spectro_weights::{WeightError, Weights, read_weights};
 use std::alloc::Global;
 
 // Bytes that are lent to one read.
@@ -73,18 +78,71 @@ pub fn read_system(feed: Feed, which: Which) -> Result<Lts, Status>
     }
 }
 
-/// The formula of which the word is a text.
-pub fn read_formula(alloc: Global, text: &str) -> Result<Chain, Status>
-    ensures ok { IfOk result (IsPlainFormula text.now) }
+/// The sheet of the formula of which the word is a text.
+pub fn read_formula(alloc: Global, text: &str) -> Result<Parsed, Status>
+    ensures ok { IfOk result (λ parsed. IsParsed text.now parsed.sheet parsed.top) }
     ensures refused { IfErr result (OrMemory (RefusesFormula text.now)) }
 {
-    match spectro_hml::parse_plain(alloc, text) {
-        Ok(chain) => Ok(chain),
+    match parse(alloc, text) {
+        Ok(parsed) => Ok(parsed),
         Err(ParseError::Text(fault)) => Err(Status::BadText(BadText {
             which: Which::Formula,
             at: u64::from(fault.at),
             kind: Kind::Formula(fault.kind),
         })),
         Err(ParseError::OutOfMemory) => Err(Status::OutOfMemory),
+    }
+}
+
+// The text that the name holds, or as much of it as is read.
+fn take_bytes<H: Shelf>(alloc: Global, name: &str, shelf: &mut H) -> Result<Vec<u8>, Status>
+    ensures text { IfOk result (λ bytes. IfSome (H.texts shelf.old) (HasRead name.now bytes.items)) }
+    ensures cause { IfErr result (OrMemory (IsUnread (H.texts shelf.old) name.now (H.faults shelf.old) (H.faults shelf.new))) }
+    ensures texts { H.texts shelf.new ≡ H.texts shelf.old }
+    ensures later { H.faults shelf.old ≤ H.faults shelf.new }
+{
+    let Ok(true) = shelf.open(name) else {
+        return Err(Status::ReadFault);
+    };
+    match read_all(alloc, shelf) {
+        Ok(bytes) => Ok(bytes),
+        Err(ReadError::Failed) => Err(Status::ReadFault),
+        Err(ReadError::OutOfMemory) => Err(Status::OutOfMemory),
+    }
+}
+
+// The weights of the text.
+fn read_weighing(alloc: Global, bytes: &[u8]) -> Result<Weights, Status>
+    ensures ok { IfOk result (IsWeightText bytes.now) }
+    ensures refused { IfErr result (OrMemory (RefusesWeighing bytes.now)) }
+{
+    match read_weights(alloc, bytes) {
+        Ok(weights) => Ok(weights),
+        Err(WeightError::Text(fault)) => Err(Status::BadText(BadText {
+            which: Which::Weights,
+            at: fault.line,
+            kind: Kind::Weights(fault.kind),
+        })),
+        Err(WeightError::OutOfMemory) => Err(Status::OutOfMemory),
+    }
+}
+
+/// The weights of the text that the name holds. Where no name is given, every label weighs 1.
+pub fn take_weights<H: Shelf>(
+    alloc: Global,
+    name: Option<&str>,
+    shelf: &mut H,
+) -> Result<Weights, Status>
+    ensures ok { IfOk result (λ weights. IfSome (H.texts shelf.old) (λ texts. GivesWeighing texts (named name.entry) weights)) }
+    ensures stopped { IfErr result (IsStopped (H.texts shelf.old) (λ texts status _. RefusesWeights texts (named name.entry) status) (LacksWeights (H.texts shelf.old) (named name.entry)) (H.faults shelf.old) (H.faults shelf.new)) }
+    ensures texts { H.texts shelf.new ≡ H.texts shelf.old }
+    ensures later { H.faults shelf.old ≤ H.faults shelf.new }
+{
+    let Some(name) = name else {
+        return Ok(Weights::new(alloc));
+    };
+    match take_bytes(alloc, name, shelf) {
+        Ok(bytes) => read_weighing(alloc, &bytes),
+        Err(status) => Err(status),
     }
 }

@@ -5,7 +5,8 @@ ghost use Rattle.spectro.specs.Outcome.{IsOutcome};
 ghost use Rattle.spectro.specs.Words.{Word};
 
 use spectro_aut::{first_faults_are_one, systems_are_one, texts_have_no_fault};
-use spectro_hml::one_chain;
+use spectro_hmltext as formulas;
+use spectro_weights as weights;
 
 /// The words and the texts have at most one outcome: one status, and one row of bytes.
 pub fn one_outcome()
@@ -15,5 +16,10 @@ pub fn one_outcome()
     systems_are_one();
     first_faults_are_one();
     texts_have_no_fault();
-    one_chain();
+    formulas::formulas_are_one();
+    formulas::first_faults_are_one();
+    formulas::texts_have_no_fault();
+    weights::weighings_are_one();
+    weights::first_faults_are_one();
+    weights::texts_have_no_fault();
 }

@@ -1,12 +1,15 @@
 -- Bits of states: read, set, and in fresh rows.
 use Rattle.std.proofs.Common.{◌≡◌, ◌∙◌, ◌⊎◌, inl, inr, ℕ, ◌*◌, ◌/◌, ◌%◌, ◌^◌, ◌<◌, ◌≢◌, suc, zero, Bool, true, false, not, nat_eq, ◌==◌, List, length, replicate, slice_set, get_or, bit_and, bit_or, w64, refl, sym, ap, arith, tests}
+use Rattle.std.specs.Prelude.{if◌then◌else◌}
 use Rattle.std.specs.Int.{bit_at}
+use Rattle.std.specs.Int.Bits.{or_zero_r}
 use Rattle.std.proofs.lemmas.Bool.{cases_eq}
 use Rattle.std.proofs.lemmas.Grind.{get_or-set_at}
-use Rattle.std.proofs.lemmas.List.{get_or-replicate, get_or-set_other, length-replicate, length-set}
+use Rattle.std.proofs.lemmas.List.{get_or-replicate, get_or-set_other, length-replicate, length-set, set-get_or}
 use Rattle.std.proofs.lemmas.List.FromFn.{get_or-map-range_with_len, length-map-range_with_len, fill_by_all}
 use Rattle.std.proofs.lemmas.Nat.{one_shl, pow_pos}
 use Rattle.std.proofs.lemmas.Nat.Bits.{and_pow, bit_at-lt, bit_at-zero, bit_at_ones, bit_at_set_same, bit_at_set_other}
+use mir.Val.{bool_byte}
 use Rattle.spectro_eval.specs.Rows.{bit_of, bits_of}
 
 -- the test of a bit
@@ -68,6 +71,18 @@ bits_of-set states row s within = bits_of-same states (slice_set (bits_of states
             let inside : s < length (bits_of states row) = omega (arith, length-bits_of states row) in
             get_or-set_at (bits_of states row) s k true false same inside ∙ sym (ap (bit_of (with_bit row s)) same ∙ with_bit-same row s within)
         by (inr other) = get_or-set_other (bits_of states row) s k true false other ∙ bits_of-get states row k below ∙ sym (with_bit-other row s k within other)
+
+zero_shifted : (n : ℕ) → 0 * n % 2 ^ 64 ≡ 0
+zero_shifted n = grind arith
+
+-- a bit that is set, or is left as it was
+pub bits_of-mark : (states : ℕ) (row : List ℕ) (s : ℕ) (set : Bool) (bit : ℕ) → s / 64 < length row → bit ≡ bool_byte set
+    → bits_of states (slice_set row (s / 64) (bit_or (get_or row (s / 64) 0) (bit * 2 ^ (s % 64) % 2 ^ 64))) ≡ (if set then slice_set (bits_of states row) s true else bits_of states row)
+bits_of-mark states row s true bit within is = rw is (bits_of-set states row s within)
+bits_of-mark states row s false bit within is =
+    let none : bit * 2 ^ (s % 64) % 2 ^ 64 ≡ 0 = ap (λ bit. bit * 2 ^ (s % 64) % 2 ^ 64) is ∙ zero_shifted (2 ^ (s % 64)) in
+    let same : slice_set row (s / 64) (bit_or (get_or row (s / 64) 0) (bit * 2 ^ (s % 64) % 2 ^ 64)) ≡ row = ap (λ word. slice_set row (s / 64) (bit_or (get_or row (s / 64) 0) word)) none ∙ ap (slice_set row (s / 64)) (or_zero_r (get_or row (s / 64) 0)) ∙ set-get_or row (s / 64) 0 in
+    ap (bits_of states) same
 
 -- ---- fresh rows
 zero_word : (n i : ℕ) → get_or {A = ℕ} (replicate n 0) i 0 ≡ 0

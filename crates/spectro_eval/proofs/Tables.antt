@@ -14,7 +14,7 @@ use Rattle.spectro_spec.specs.System.{System, Step, Label, HasStep, IsWhole}
 use Rattle.spectro_spec.specs.Formula.{Formula, see, all, no_clauses, plus, minus, Satisfies, SatisfiesEach}
 use Rattle.spectro_hml.specs.declared.node.Clause.{Clause}
 use Rattle.spectro_hml.specs.Sheets.{SheetNode, see_node, all_node, formula_at, clauses_of, formula_of_node, formulas_of, unfolded}
-use Rattle.spectro_hml.specs.Truth.{AreTruths, IsTrueAt, IsBefore}
+use Rattle.spectro_eval.specs.StateTables.{AreTruths, IsTrueAt, IsBefore}
 use Rattle.spectro_hml.proofs.Unfoldings.{length-formulas_of, formulas_of-push}
 use Rattle.spectro_eval.specs.Rows.{words_of, bit_of, bits_of, rows_of}
 use Rattle.spectro_eval.specs.Truths.{AreSheetTruths, AreRows}

@@ -1,2 +1,4 @@
 pub mod Rows
+pub mod StateTables
+pub mod StepsByLabel
 pub mod Truths

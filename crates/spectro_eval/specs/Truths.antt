@@ -3,7 +3,7 @@ use Rattle.std.specs.Prelude.{ℕ, ◌≡◌, ◌*◌, ◌<◌, Bool, List, [], 
 use Rattle.spectro_spec.specs.System.{System}
 use Rattle.spectro_spec.specs.Formula.{Formula}
 use Rattle.spectro_hml.specs.Sheets.{SheetNode, formula_at, unfolded}
-use Rattle.spectro_hml.specs.Truth.{AreTruths}
+use Rattle.spectro_eval.specs.StateTables.{AreTruths}
 use Rattle.spectro_eval.specs.Rows.{words_of, bits_of}
 
 -- there is a row for each node of the sheet, and it tells at which states the formula that the node unfolds to is true

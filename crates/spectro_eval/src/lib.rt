@@ -2,6 +2,7 @@
 #![tactic(auto)]
 
 mod row;
+mod steps;
 mod truth;
 
 pub use truth::Truth;

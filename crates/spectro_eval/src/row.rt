@@ -1,7 +1,10 @@
-ghost use Rattle.std.specs.Prelude.{◌≡◌, ℕ, ◌+◌, ◌*◌, ◌/◌, ◌<◌, ◌≤◌, ◌↔◌, true, length, drop, slice_set, All, IsTrue};
-ghost use Rattle.spectro_hml.specs.Truth.{IsBefore};
+ghost use Rattle.std.specs.Prelude.{◌≡◌, ℕ, ◌+◌, ◌*◌, ◌/◌, ◌<◌, ◌≤◌, ◌↔◌, true, length, drop, slice_set, All, IsTrue, if◌then◌else◌};
+ghost use Rattle.spectro_spec.specs.System.{IsWhole};
+ghost use Rattle.spectro_eval.specs.StateTables.{IsBefore};
+ghost use Rattle.spectro_eval.specs.StepsByLabel.{AreByLabel};
 ghost use Rattle.spectro_eval.specs.Rows.{words_of, bit_of, bits_of};
 
+use crate::steps::StepsByLabel;
 use spectro_hml::Clause;
 use spectro_lts::Lts;
 
@@ -29,30 +32,32 @@ pub(crate) fn bit_of(row: &[u64], state: u32) -> bool
     row[(state / u64::BITS) as usize] & (1 << (state % u64::BITS)) != 0
 }
 
-// Sets the bit of the state.
-fn set_bit(row: &mut [u64], state: u32)
+// Sets the bit of the state where `set` says so. A branch on it would often be foretold wrongly, so there is none.
+fn mark(row: &mut [u64], state: u32, set: bool)
     requires { state / 64 < length row.old }
-    ensures { (states : ℕ) → bits_of states row.new ≡ slice_set (bits_of states row.old) state true }
+    ensures { (states : ℕ) → bits_of states row.new ≡ (if set then slice_set (bits_of states row.old) state true else bits_of states row.old) }
 {
-    row[(state / u64::BITS) as usize] |= 1 << (state % u64::BITS);
+    row[(state / u64::BITS) as usize] |= u64::from(set) << (state % u64::BITS);
 }
 
 /// Sets in the row the bits of the states from which a step under the label leads to one whose bit is set in the next
 /// row, and no others.
-pub(crate) fn write_observation(lts: &Lts, label: &str, next: &[u64], row: &mut [u64])
+pub(crate) fn write_observation(
+    lts: &Lts,
+    by_label: &StepsByLabel,
+    label: &str,
+    next: &[u64],
+    row: &mut [u64],
+)
+    requires whole { IsWhole lts.now }
+    requires by_label { AreByLabel lts.now.steps by_label.now }
     requires next { words_of lts.now.states ≤ length next.now }
     requires row { words_of lts.now.states ≤ length row.old }
     ensures { IsBefore lts.now.steps label.now (bits_of lts.now.states next.now) (bits_of lts.now.states row.new) }
 {
     row.fill(0);
-    let Some(no) = lts.label_no(label) else {
-        return;
-    };
-    for k in 0..lts.step_count() {
-        let step = lts.step(k);
-        if step.label == no && bit_of(next, step.to) {
-            set_bit(row, step.from);
-        }
+    for step in by_label.under(lts, label) {
+        mark(row, step.from, bit_of(next, step.to));
     }
 }
 

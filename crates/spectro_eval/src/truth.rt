@@ -2,11 +2,13 @@ ghost use Rattle.std.specs.Prelude.{◌≡◌, ℕ, ◌+◌, ◌<◌, ◌↔◌,
 ghost use Rattle.spectro_spec.specs.System.{System, IsWhole};
 ghost use Rattle.spectro_spec.specs.Formula.{Satisfies};
 ghost use Rattle.spectro_hml.specs.Sheets.{SheetNode, formulas_of, unfolded};
-ghost use Rattle.spectro_hml.specs.Truth.{AreTruths};
+ghost use Rattle.spectro_eval.specs.StateTables.{AreTruths};
 ghost use Rattle.spectro_eval.specs.Rows.{words_of, bits_of};
+ghost use Rattle.spectro_eval.specs.StepsByLabel.{AreByLabel};
 ghost use Rattle.spectro_eval.specs.Truths.{AreSheetTruths, AreRows};
 
 use crate::row::{bit_of, row_at, words_of, write_conjunction, write_observation};
+use crate::steps::StepsByLabel;
 use spectro_hml::{Node, Sheet};
 use spectro_lts::Lts;
 use std::alloc::{AllocError, Global};
@@ -34,11 +36,12 @@ impl Truth {
         ensures { IfOk result (λ truth. AreSheetTruths lts.now sheet.now truth) }
     {
         let states = lts.states();
+        let by_label = StepsByLabel::of(alloc, lts)?;
         let mut rows = Vec::new(alloc);
         let mut words = vec![in alloc; 0; words_of(states)]?;
         let row = words.as_mut_slice();
         for node in 0..sheet.len() {
-            write_row(lts, sheet, node, &rows, row);
+            write_row(lts, &by_label, sheet, node, &rows, row);
             rows.extend_from_slice(row)?;
         }
         Ok(Truth { states, rows })
@@ -56,8 +59,16 @@ impl Truth {
 }
 
 // Writes the row of the node. The rows of the nodes before it are there.
-fn write_row(lts: &Lts, sheet: &Sheet, node: usize, rows: &[u64], row: &mut [u64])
+fn write_row(
+    lts: &Lts,
+    by_label: &StepsByLabel,
+    sheet: &Sheet,
+    node: usize,
+    rows: &[u64],
+    row: &mut [u64],
+)
     requires whole { IsWhole lts.now }
+    requires by_label { AreByLabel lts.now.steps by_label.now }
     requires node { node < length sheet.now }
     requires rows { AreRows lts.now (formulas_of (take node sheet.now)) rows.now }
     requires row { length row.old ≡ words_of lts.now.states }
@@ -66,6 +77,7 @@ fn write_row(lts: &Lts, sheet: &Sheet, node: usize, rows: &[u64], row: &mut [u64
     match sheet.node(node) {
         Node::See { label, next } => write_observation(
             lts,
+            by_label,
             label,
             row_at(rows, row.len(), next),
             row,

@@ -1,9 +1,2 @@
-pub mod PlainLabels
-pub mod Chain
-pub mod Faults
-pub mod Grammar
-pub mod Kinds
 pub mod Nodes
-pub mod Reading
 pub mod Sheets
-pub mod Truth

@@ -1,27 +1,33 @@
--- What `eval` gives for the text of a formula and that of a file.
-use Rattle.std.specs.Prelude.{ℕ, ◌≡◌, ◌↔◌, Bool, List, [], ◌∷◌, ◌++◌, IsTrue, codes}
-use Rattle.spectro_spec.specs.System.{System, Label}
+-- What `eval` gives for the text of a formula, that of a file, and the weights that are asked for.
+use Rattle.std.specs.Prelude.{ℕ, ◌≡◌, ◌↔◌, Bool, List, [], ◌++◌, IsTrue, Option}
+use Rattle.spectro_spec.specs.System.{System}
 use Rattle.spectro_spec.specs.Formula.{Formula, Satisfies}
 use Rattle.spectro_spec.specs.Price.{Price}
 use Rattle.spectro_spec.specs.Pricing.{price}
-use Rattle.spectro_hml.specs.Chain.{formula_of}
-use Rattle.spectro_hml.specs.Grammar.{IsPlainFormula}
-use Rattle.spectro.specs.Notation.{truth_text, price_text}
+use Rattle.spectro_spec.specs.Weighing.{Weighing}
+use Rattle.spectro_io.specs.Shelves.{Texts}
+use Rattle.spectro_energy.specs.declared.parts.Parts.{Parts}
+use Rattle.spectro_hmltext.specs.FormulaTexts.{IsFormulaText}
+use Rattle.spectro.specs.Notation.{truth_line, price_line}
 use Rattle.spectro.specs.Refusals.{IsTextOf, RefusesSystem, RefusesFormula}
+use Rattle.spectro.specs.Weighted.{GivesWeighing, RefusesWeights, parts_shown}
+use Rattle.spectro.specs.Words.{Word}
 use Rattle.spectro.specs.declared.status.Status.{Status}
 use Rattle.spectro.specs.declared.status.Status.TheVariants.{Done}
 use Rattle.spectro.specs.declared.status.Which.TheVariants.{Left}
 
 -- two lines: the truth, and the price
-abbrev pub eval_text : Bool → Price → List ℕ
-eval_text answer e = truth_text answer ++ 10 ∷ codes "price " ++ price_text e ++ 10 ∷ []
+abbrev pub eval_text : Bool → Parts → Price → List ℕ
+eval_text answer parts e = truth_line answer ++ price_line parts e
 
 -- the bytes say whether the formula is true at the initial state, and its price
-abbrev pub SaysTruth : System → Formula → List ℕ → Type 0
-SaysTruth system formula bytes = (answer : Bool) × (IsTrue answer ↔ Satisfies system system.initial formula) × (bytes ≡ eval_text answer (price [] formula))
+abbrev pub SaysTruth : System → Formula → Weighing → Parts → List ℕ → Type 0
+SaysTruth system formula weighing parts bytes = (answer : Bool) × (IsTrue answer ↔ Satisfies system system.initial formula) × (bytes ≡ eval_text answer parts (price weighing formula))
 
 -- the first refusal that is met, or the answer
-pub data EvalGives (formula text : List ℕ) (status : Status) (bytes : List ℕ) : Type 0 where
-  no_system : RefusesSystem Left text status → bytes ≡ [] → EvalGives formula text status bytes
-  no_formula : (system : System) → IsTextOf text system → RefusesFormula formula status → bytes ≡ [] → EvalGives formula text status bytes
-  answered : (system : System) (labels : List Label) → IsTextOf text system → IsPlainFormula formula labels → status ≡ Done → SaysTruth system (formula_of labels) bytes → EvalGives formula text status bytes
+pub data EvalGives (texts : Texts) (word : Word) (weights : Option Word) (text : List ℕ) (status : Status) (bytes : List ℕ) : Type 0 where
+  no_system : RefusesSystem Left text status → bytes ≡ [] → EvalGives texts word weights text status bytes
+  no_formula : (system : System) → IsTextOf text system → RefusesFormula word status → bytes ≡ [] → EvalGives texts word weights text status bytes
+  no_weights : (system : System) (formula : Formula) → IsTextOf text system → IsFormulaText word formula → RefusesWeights texts weights status → bytes ≡ [] → EvalGives texts word weights text status bytes
+  answered : (system : System) (formula : Formula) (weighing : Weighing) → IsTextOf text system → IsFormulaText word formula → GivesWeighing texts weights weighing → status ≡ Done
+      → SaysTruth system formula weighing (parts_shown weights) bytes → EvalGives texts word weights text status bytes

@@ -8,7 +8,7 @@ use std::test::Fail;
 
 #[test]
 fn a_run_tells_how_it_ended(rt: HostRuntime) -> Result<(), Fail> {
-    let rows: [(&[&str], &[u64], &str); 5] = [
+    let rows: [(&[&str], &[u64], &str); 6] = [
         (&["eval", "tt"], &[], "spectro: words not understood\n"),
         (
             &["eval", "tt", "nothing.aut"],
@@ -23,7 +23,12 @@ fn a_run_tells_how_it_ended(rt: HostRuntime) -> Result<(), Fail> {
         (
             &["eval", "and{}", "stopped.aut"],
             &[],
-            "spectro: formula:0: NotPlain\n",
+            "spectro: formula:4: Unexpected\n",
+        ),
+        (
+            &["price", "tt", "--weights", "twice.txt"],
+            &[],
+            "spectro: twice.txt:2: Repeated\n",
         ),
         (
             &["eval", "tt", "stopped.aut"],
@@ -43,6 +48,7 @@ fn what_no_run_ends_in_so_far_has_a_message(rt: HostRuntime) -> Result<(), Fail>
     let command = Some(Command::Eval {
         formula: "tt",
         file: "short.aut",
+        weights: None,
     });
     let missing = Status::BadText(BadText {
         which: Which::Left,
