@@ -26,6 +26,7 @@ pub mod Bounds
 pub mod Solved
 pub mod Places
 pub mod ReachedLists
+pub mod Sizes
 pub mod Masks
 pub mod RowsOfGenerations
 pub mod ReachedPairs

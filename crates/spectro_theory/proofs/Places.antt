@@ -1,7 +1,7 @@
 -- Members of a list by their places.
-use Rattle.std.proofs.Common.{ℕ, zero, suc, ◌<◌, ◌≡◌, List, [], ◌∷◌, ◌++◌, length, Some, None, refl, arith}
-use Rattle.std.proofs.lemmas.Option.{slice_get_within}
-use Rattle.spectro_game.specs.Reached.{StandsAt}
+use Rattle.std.proofs.Common.{ℕ, zero, suc, ◌<◌, ◌≡◌, ◌⊎◌, inl, inr, ap, ◌∙◌, Contains, List, [], ◌∷◌, ◌++◌, length, Some, None, refl, arith}
+use Rattle.std.proofs.lemmas.Option.{slice_get_within, slice_get-get_or, get_or_from_slice_get}
+use Rattle.spectro_game.specs.Reached.{StandsAt, StandsIn}
 
 pub stands-below : {X : Type 0} (xs : List X) (i : ℕ) (x : X) → StandsAt xs i x → i < length xs
 stands-below xs i x here = slice_get_within xs i x here
@@ -22,3 +22,30 @@ begins_with (x ∷ xs) (y ∷ ys) within = go (within zero x refl) (begins_with 
   where
     go : Some y ≡ Some x → (rest : List _) × (ys ≡ xs ++ rest) → (rest : List _) × (y ∷ ys ≡ x ∷ xs ++ rest)
     go e (rest, is) = (rest, cc)
+
+-- places in a longer list
+pub stands-left : {X : Type 0} (xs ys : List X) (i : ℕ) (x : X) → StandsAt xs i x → StandsAt (xs ++ ys) i x
+stands-left [] ys i x here = cc
+stands-left (y ∷ xs) ys zero x here = here
+stands-left (y ∷ xs) ys (suc i) x here = stands-left xs ys i x here
+
+pub stands-last : {X : Type 0} (xs : List X) (y : X) (rest : List X) → StandsAt (xs ++ y ∷ rest) (length xs) y
+stands-last [] y rest = refl
+stands-last (x ∷ xs) y rest = stands-last xs y rest
+
+-- with one member more, a member stands at its old place, or is the last
+pub stands-cases : {X : Type 0} (xs : List X) (y : X) (i : ℕ) (x : X) → StandsAt (xs ++ y ∷ []) i x → StandsAt xs i x ⊎ ((i ≡ length xs) × (y ≡ x))
+stands-cases [] y zero x here = inr (refl, cc)
+stands-cases [] y (suc i) x here = cc
+stands-cases (z ∷ xs) y zero x here = inl here
+stands-cases (z ∷ xs) y (suc i) x here = elim (stands-cases xs y i x here) [ inl old ↦ inl old | inr last ↦ inr (ap suc last.0, last.1) ]
+
+pub stands-old : {X : Type 0} (xs : List X) (y : X) (i : ℕ) (x : X) → i < length xs → StandsAt (xs ++ y ∷ []) i x → StandsAt xs i x
+stands-old xs y i x below here = elim (stands-cases xs y i x here) [ inl old ↦ old | inr last ↦ absurd (let e : i ≡ length xs = last.0 in omega arith) ]
+
+-- a member stands at a place, and the other way
+pub StandsIn-member : {X : Type 0} (xs : List X) (x : X) → Contains xs x → StandsIn xs x
+StandsIn-member xs x (i, below, is) = (i, slice_get-get_or xs i x below ∙ ap Some is)
+
+pub Contains-stands : {X : Type 0} (xs : List X) (x : X) → StandsIn xs x → Contains xs x
+Contains-stands xs x (i, here) = (i, slice_get_within xs i x here, get_or_from_slice_get xs i x x here)

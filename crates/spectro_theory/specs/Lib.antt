@@ -3,5 +3,6 @@ pub mod Splits
 pub mod LawsOfPrices
 pub mod LawsOfNotions
 pub mod LawsOfPairs
+pub mod LawsOfSizes
 pub mod LawsOfSteps
 pub mod LawsOfGenerations

@@ -18,7 +18,10 @@ pub use notions::{
     notions_hold_by_least_prices, smaller_bounds_hold_more,
 };
 pub use pairs::{
-    divisions_are_by_mask, followers_are_by_case, reached_pairs_are_closed, reached_pairs_are_one,
+    divisions_are_by_mask, followers_are_by_case, fronts_are_no_larger,
+    pairs_are_at_most_half_the_size, pairs_weigh_at_most_the_size, pairs_weigh_by_their_members,
+    parts_are_fewer_than_the_size, reached_pairs_are_closed, reached_pairs_are_one,
+    sets_have_at_most_nineteen_members, sizes_add_up,
 };
 pub use prices::{
     inverses_are_least, minimal_elements_are_by_cover, minimal_elements_are_minimal,

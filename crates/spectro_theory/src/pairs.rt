@@ -1,4 +1,13 @@
 ghost use Rattle.spectro_theory.specs.LawsOfPairs.{DivisionsAreByMask, FollowersAreByCase, ReachedPairsAreClosed, ReachedPairsAreOne};
+ghost use Rattle.spectro_theory.specs.LawsOfSizes.{
+  FrontsAreNoLarger,
+  PairsAreAtMostHalfTheSize,
+  PairsWeighAtMostTheSize,
+  PairsWeighByTheirMembers,
+  PartsAreFewerThanTheSize,
+  SetsHaveAtMostNineteenMembers,
+  SizesAddUp,
+};
 
 /// A pair follows another after a step, with a subset that is not empty, or as another member against the state.
 pub fn followers_are_by_case()
@@ -18,4 +27,39 @@ pub fn reached_pairs_are_one()
 /// What is reached has with each pair its followers.
 pub fn reached_pairs_are_closed()
     ensures { ReachedPairsAreClosed }
+{}
+
+/// The sizes of a front and of the rest make that of the whole.
+pub fn sizes_add_up()
+    ensures { SizesAddUp }
+{}
+
+/// A front is no larger than the whole.
+pub fn fronts_are_no_larger()
+    ensures { FrontsAreNoLarger }
+{}
+
+/// There are at most half as many pairs as positions.
+pub fn pairs_are_at_most_half_the_size()
+    ensures { PairsAreAtMostHalfTheSize }
+{}
+
+/// A pair with a set of `n` members weighs `2 ^ n + 1`, and one more where `n` is 1.
+pub fn pairs_weigh_by_their_members()
+    ensures { PairsWeighByTheirMembers }
+{}
+
+/// Each of the pairs weighs at most their size.
+pub fn pairs_weigh_at_most_the_size()
+    ensures { PairsWeighAtMostTheSize }
+{}
+
+/// The parts of a set of one of the pairs are fewer than the positions.
+pub fn parts_are_fewer_than_the_size()
+    ensures { PartsAreFewerThanTheSize }
+{}
+
+/// Within a million positions a set has at most nineteen members.
+pub fn sets_have_at_most_nineteen_members()
+    ensures { SetsHaveAtMostNineteenMembers }
 {}
