@@ -26,8 +26,13 @@ pub mod Bounds
 pub mod Solved
 pub mod Places
 pub mod ReachedLists
+pub mod Growing
+pub mod PutLast
+pub mod Expanding
 pub mod Sizes
 pub mod Masks
 pub mod RowsOfGenerations
 pub mod ReachedPairs
 pub mod Universe
+pub mod Reaching
+pub mod ReachingExamples

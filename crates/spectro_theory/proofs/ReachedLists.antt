@@ -4,16 +4,8 @@
 use Rattle.std.proofs.Common.{ℕ, zero, suc, ◌+◌, ◌<◌, ◌≤◌, ◌≡◌, inl, inr, List, [], ◌∷◌, ◌++◌, length, sym, ap, ◌∙◌, subst, arith, length-append, append-nil}
 use Rattle.std.proofs.lemmas.Bool.{cases_lt}
 use Rattle.spectro_game.specs.Reached.{StandsAt, StandsIn, IsFoundBefore, Follows, IsFoundAt, AreReached}
+use Rattle.spectro_theory.specs.Reaching.{AreReachedTo}
 use Rattle.spectro_theory.proofs.Places.{stands-below, stands-one, stands-some, begins_with}
-
--- the same up to place (k, r): the followers before it are members, and each later member is found before it
-pub record AreReachedTo {X : Type 0} (follow : X → List X) (starts xs : List X) (k r : ℕ) : Type 0 where
-  pub distinct : (i j : ℕ) (x : X) → StandsAt xs i x → StandsAt xs j x → i ≡ j
-  pub begins : (i : ℕ) (x : X) → StandsAt starts i x → StandsAt xs i x
-  pub closed : (i s : ℕ) (y : X) → Follows follow xs i s y → IsFoundBefore i s k r → StandsIn xs y
-  pub found : (j : ℕ) (y : X) → length starts ≤ j → StandsAt xs j y → (i : ℕ) × (s : ℕ) × (i < j) × IsFoundAt follow xs i s y × IsFoundBefore i s k r
-  pub rising : (j l : ℕ) (y z : X) (i s h t : ℕ) → length starts ≤ j → j < l → StandsAt xs j y → StandsAt xs l z
-      → IsFoundAt follow xs i s y → IsFoundAt follow xs h t z → IsFoundBefore i s h t
 
 module _ {X : Type 0} (follow : X → List X) where
   -- the first n members of two lists are the same
@@ -21,14 +13,14 @@ module _ {X : Type 0} (follow : X → List X) where
     pub there : (i : ℕ) (x : X) → i < n → StandsAt xs i x → StandsAt ys i x
     pub back : (i : ℕ) (x : X) → i < n → StandsAt ys i x → StandsAt xs i x
 
-  alike-back : (xs ys : List X) (n : ℕ) → StandAlike xs ys n → StandAlike ys xs n
+  pub alike-back : (xs ys : List X) (n : ℕ) → StandAlike xs ys n → StandAlike ys xs n
   alike-back xs ys n alike = record { there = alike.back; back = alike.there }
 
-  follows-alike : (xs ys : List X) (n i s : ℕ) (y : X) → StandAlike xs ys n → i < n → Follows follow xs i s y → Follows follow ys i s y
+  pub follows-alike : (xs ys : List X) (n i s : ℕ) (y : X) → StandAlike xs ys n → i < n → Follows follow xs i s y → Follows follow ys i s y
   follows-alike xs ys n i s y alike below (x, here, f) = (x, alike.there i x below here, f)
 
   -- where something is found depends on the members up to the finder
-  found-alike : (xs ys : List X) (n i s : ℕ) (y : X) → StandAlike xs ys n → i < n → IsFoundAt follow xs i s y → IsFoundAt follow ys i s y
+  pub found-alike : (xs ys : List X) (n i s : ℕ) (y : X) → StandAlike xs ys n → i < n → IsFoundAt follow xs i s y → IsFoundAt follow ys i s y
   found-alike xs ys n i s y alike below found = record {
     follows = follows-alike xs ys n i s y alike below found.follows;
     finder = λ h t early f. found.finder h t early (follows-alike ys xs n h t y (alike-back xs ys n alike) (omega arith) f);
@@ -114,11 +106,11 @@ module _ {X : Type 0} (follow : X → List X) where
         }
 
     -- what is reached up to a place begins each list of what is reached
-    reached_begins : (rest : List X) × (ys ≡ xs ++ rest)
+    pub reached_begins : (rest : List X) × (ys ≡ xs ++ rest)
     reached_begins = begins_with xs ys (λ i x here. (stand_alike (length xs) (omega arith)).there i x (stands-below xs i x here) here)
 
   -- what is reached is reached up to the end
-  reached-to_end : (starts xs : List X) → AreReached follow starts xs → AreReachedTo follow starts xs (length xs) 0
+  pub reached-to_end : (starts xs : List X) → AreReached follow starts xs → AreReachedTo follow starts xs (length xs) 0
   reached-to_end starts xs whole = record {
     distinct = whole.distinct;
     begins = whole.begins;
@@ -128,6 +120,16 @@ module _ {X : Type 0} (follow : X → List X) where
         let within : j < length xs = stands-below xs j y here in
         (i, s, below, at, inl (omega arith));
     rising = whole.rising;
+  }
+
+  -- what is reached up to the end is what is reached
+  pub reached-from_end : (starts xs : List X) → AreReachedTo follow starts xs (length xs) 0 → AreReached follow starts xs
+  reached-from_end starts xs to = record {
+    distinct = to.distinct;
+    begins = to.begins;
+    closed = λ i s y f. to.closed i s y f (inl (stands-below xs i f.0 f.1));
+    found = λ j y past here. let (i, s, below, at, early) = to.found j y past here in (i, s, below, at);
+    rising = to.rising;
   }
 
   -- there is at most one list of what is reached

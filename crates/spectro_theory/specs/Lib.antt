@@ -2,7 +2,9 @@ pub mod Leaves
 pub mod Splits
 pub mod LawsOfPrices
 pub mod LawsOfNotions
+pub mod Reaching
 pub mod LawsOfPairs
+pub mod LawsOfReaching
 pub mod LawsOfSizes
 pub mod LawsOfSteps
 pub mod LawsOfGenerations

@@ -1,4 +1,14 @@
 ghost use Rattle.spectro_theory.specs.LawsOfPairs.{DivisionsAreByMask, FollowersAreByCase, ReachedPairsAreClosed, ReachedPairsAreOne};
+ghost use Rattle.spectro_theory.specs.LawsOfReaching.{
+  PairsArePutLast,
+  PairsWithoutRepeatsStay,
+  PuttingLastGoesOn,
+  ReachedFrontsAreFronts,
+  ReachingBegins,
+  ReachingEnds,
+  ReachingGoesOn,
+  SamePairsAreEqual,
+};
 ghost use Rattle.spectro_theory.specs.LawsOfSizes.{
   FrontsAreNoLarger,
   PairsAreAtMostHalfTheSize,
@@ -27,6 +37,47 @@ pub fn reached_pairs_are_one()
 /// What is reached has with each pair its followers.
 pub fn reached_pairs_are_closed()
     ensures { ReachedPairsAreClosed }
+{}
+
+/// Starts without repeats are what they reach by the followers of none.
+pub fn reaching_begins()
+    ensures { ReachingBegins }
+{}
+
+/// What is reached by the first `k` pairs, with each follower of the pair at place `k` put last unless it stands there, is
+/// what is reached by the first `k + 1`.
+pub fn reaching_goes_on()
+    ensures { ReachingGoesOn }
+{}
+
+/// What is reached by the followers of all its pairs is what the starts reach.
+pub fn reaching_ends()
+    ensures { ReachingEnds }
+{}
+
+/// What is reached by the first `k` pairs begins each list of what is reached, and is no larger.
+pub fn reached_fronts_are_fronts()
+    ensures { ReachedFrontsAreFronts }
+{}
+
+/// Pairs that are put last leave the old ones in their places, and none stands twice.
+pub fn pairs_are_put_last()
+    ensures { PairsArePutLast }
+{}
+
+/// To put more pairs last after others is to put all of them last.
+pub fn putting_last_goes_on()
+    ensures { PuttingLastGoesOn }
+{}
+
+/// Pairs without repeats are put last as they are.
+pub fn pairs_without_repeats_stay()
+    ensures { PairsWithoutRepeatsStay }
+{}
+
+/// The test of pairs finds just the equal ones.
+pub fn same_pairs_are_equal()
+    ensures { SamePairsAreEqual }
 {}
 
 /// The sizes of a front and of the rest make that of the whole.
