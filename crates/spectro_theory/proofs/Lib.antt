@@ -29,6 +29,7 @@ pub mod ReachedLists
 pub mod Growing
 pub mod PutLast
 pub mod Expanding
+pub mod Existence
 pub mod Sizes
 pub mod Masks
 pub mod RowsOfGenerations

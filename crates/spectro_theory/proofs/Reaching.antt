@@ -1,15 +1,23 @@
--- What pairs reach, pair by pair.
-use Rattle.std.proofs.Common.{◌≡◌, ◌≤◌, ◌==◌, inl, inr, List, [], ◌++◌, length, refl, sym, ap, subst, arith, length-append, add-one, true}
+-- What pairs reach: pair by pair, up to the whole list, which there is.
+-- The pairs that can be reached are among those of the lists that have the starts and are closed under followers.
+use Rattle.std.proofs.Common.{◌≡◌, ◌≤◌, ◌==◌, inl, inr, List, [], ◌++◌, length, refl, sym, ap, subst, arith, length-append, add-one, Contains, true}
+use Rattle.std.specs.List.{flat_map}
 use Rattle.std.specs.Str.{bytes_eq}
 use Rattle.std.proofs.lemmas.Bool.{eqb-true, eq-eqb, and_parts, and_from}
 use Rattle.std.proofs.lemmas.Slice.Eq.{bytes_eq-Decides}
+use Rattle.spectro_spec.specs.System.{System}
+use Rattle.spectro_spec.proofs.Membership.{Contains-flat_map, Contains-flat_map_cases}
 use Rattle.spectro_game.specs.Pairs.{Pair, followers, size}
+use Rattle.spectro_game.specs.Reached.{StandsIn}
 use Rattle.spectro_theory.specs.Reaching.{AreReachedPairsTo, with_all, is_same_pair}
-use Rattle.spectro_theory.specs.LawsOfReaching.{IsFront, ReachingBegins, ReachingGoesOn, ReachingEnds, ReachedFrontsAreFronts, PairsArePutLast, PuttingLastGoesOn, PairsWithoutRepeatsStay, SamePairsAreEqual}
+use Rattle.spectro_theory.specs.LawsOfReaching.{IsFront, ReachedPairsExist, ReachingBegins, ReachingGoesOn, ReachingEnds, ReachedFrontsAreFronts, PairsArePutLast, PuttingLastGoesOn, PairsWithoutRepeatsStay, SamePairsAreEqual}
+use Rattle.spectro_theory.proofs.Places.{StandsIn-member, Contains-stands}
+use Rattle.spectro_theory.proofs.Universe.{universe, universe-closed, universe-has}
 use Rattle.spectro_theory.proofs.ReachedLists.{reached_begins, reached-to_end, reached-from_end}
 use Rattle.spectro_theory.proofs.Growing.{reached-starts}
 use Rattle.spectro_theory.proofs.PutLast.{with_all-grows, with_all-append, with_all-distinct, stands-with_all, added-with_all, cases-with_all, once-with_all}
 use Rattle.spectro_theory.proofs.Expanding.{reached-with_all}
+use Rattle.spectro_theory.proofs.Existence.{some_reached}
 use Rattle.spectro_theory.proofs.Sizes.{size-front}
 
 -- ---- the test of pairs
@@ -72,3 +80,27 @@ pub fronts-begin : ReachedFrontsAreFronts
 fronts-begin system starts front pairs k to whole =
     let begun = reached_begins (followers system) starts front pairs k 0 to whole in
     front-of front begun.0 pairs begun.1
+
+-- ---- the whole list
+module _ (system : System) (starts : List Pair) where
+  around : Pair → List Pair
+  around x = universe system x.state x.set
+
+  abbrev all_around : List Pair
+  all_around = flat_map around starts
+
+  around-closed : (x : Pair) → StandsIn all_around x → (y : Pair) → StandsIn (followers system x) y → StandsIn all_around y
+  unfolding around
+  around-closed x known y follows =
+      let found = Contains-flat_map_cases around starts x (Contains-stands all_around x known) in
+      let next : Contains (around found.0) y = universe-closed system found.0.state found.0.set x.state x.set y.state y.set found.2 (Contains-stands (followers system x) y follows) in
+      StandsIn-member all_around y (Contains-flat_map around starts found.0 y found.1 next)
+
+  around-starts : (x : Pair) → StandsIn starts x → StandsIn all_around x
+  unfolding around
+  around-starts x start =
+      StandsIn-member all_around x (Contains-flat_map around starts x x (Contains-stands starts x start) (universe-has system x.state x.set))
+
+pub some_pairs : ReachedPairsExist
+some_pairs system starts once =
+    some_reached is_same_pair same_pair-equal same_pair-itself (followers system) starts (all_around system starts) (around-closed system starts) once (around-starts system starts)

@@ -110,7 +110,7 @@ module _ (system : System) (p : ℕ) (qs : List ℕ) where
   abbrev sets : List (List ℕ)
   sets = parts_of qs ++ parts_of (rising states)
 
-  abbrev universe : List Pair
+  abbrev pub universe : List Pair
   universe = pairs_of states sets
 
   step-to_state : (s : ℕ) (label : Label) (t : ℕ) → HasStep system s label t → Contains states t
@@ -147,13 +147,13 @@ module _ (system : System) (p : ℕ) (qs : List ℕ) where
   follower-known s set s' set' state known (inr (inl (e, some, (right, divided)))) = (subst (Contains states) (sym e) state, set-subset set set' right known divided)
   follower-known s set s' set' state known (inr (inr (member, differ, e))) = (set-member set known s' member, subst (Contains sets) (sym e) (set-single s state))
 
-  universe-closed : IsClosed system (IsOneOf universe)
+  pub universe-closed : IsClosed system (IsOneOf universe)
   universe-closed s set s' set' known follows =
       let here = Contains-pairs_of_cases states sets s set known in
       let there = follower-known s set s' set' here.0 here.1 ((IsFollower-iff system s set s' set').0 follows) in
       Contains-pairs_of states sets s' set' there.0 there.1
 
-  universe-has : IsOneOf universe p qs
+  pub universe-has : IsOneOf universe p qs
   universe-has = Contains-pairs_of states sets p qs (Contains-first p (qs ++ targets))
       (Contains-append_left (parts_of qs) (parts_of (rising states)) qs (Contains-parts_of qs qs (all_part qs)))
 

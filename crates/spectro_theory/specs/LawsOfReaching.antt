@@ -1,9 +1,13 @@
--- Laws of what is reached, and how it is found pair by pair.
+-- Laws of what is reached: that there is such a list, and how it is found pair by pair.
 use Rattle.std.specs.Prelude.{ℕ, ◌≡◌, ◌≤◌, ◌+◌, ◌⊎◌, ◌↔◌, List, [], ◌++◌, length, true}
 use Rattle.spectro_spec.specs.System.{System}
 use Rattle.spectro_game.specs.Pairs.{Pair, followers, AreReachedPairs, size}
 use Rattle.spectro_game.specs.Reached.{StandsAt, StandsIn}
 use Rattle.spectro_theory.specs.Reaching.{StandOnce, AreReachedPairsTo, with_all, is_same_pair}
+
+-- starts without repeats reach a list of pairs
+abbrev pub ReachedPairsExist : Type 0
+ReachedPairsExist = (system : System) (starts : List Pair) → StandOnce starts → (pairs : List Pair) × AreReachedPairs system starts pairs
 
 -- starts without repeats are what they reach by the followers of none
 abbrev pub ReachingBegins : Type 0

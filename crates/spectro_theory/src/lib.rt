@@ -22,8 +22,8 @@ pub use pairs::{
     pairs_are_at_most_half_the_size, pairs_are_put_last, pairs_weigh_at_most_the_size,
     pairs_weigh_by_their_members, pairs_without_repeats_stay, parts_are_fewer_than_the_size,
     putting_last_goes_on, reached_fronts_are_fronts, reached_pairs_are_closed,
-    reached_pairs_are_one, reaching_begins, reaching_ends, reaching_goes_on, same_pairs_are_equal,
-    sets_have_at_most_nineteen_members, sizes_add_up,
+    reached_pairs_are_one, reached_pairs_exist, reaching_begins, reaching_ends, reaching_goes_on,
+    same_pairs_are_equal, sets_have_at_most_nineteen_members, sizes_add_up,
 };
 pub use prices::{
     inverses_are_least, minimal_elements_are_by_cover, minimal_elements_are_minimal,

@@ -4,6 +4,7 @@ ghost use Rattle.spectro_theory.specs.LawsOfReaching.{
   PairsWithoutRepeatsStay,
   PuttingLastGoesOn,
   ReachedFrontsAreFronts,
+  ReachedPairsExist,
   ReachingBegins,
   ReachingEnds,
   ReachingGoesOn,
@@ -37,6 +38,11 @@ pub fn reached_pairs_are_one()
 /// What is reached has with each pair its followers.
 pub fn reached_pairs_are_closed()
     ensures { ReachedPairsAreClosed }
+{}
+
+/// Starts without repeats reach a list of pairs.
+pub fn reached_pairs_exist()
+    ensures { ReachedPairsExist }
 {}
 
 /// Starts without repeats are what they reach by the followers of none.
