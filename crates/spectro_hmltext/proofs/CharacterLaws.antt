@@ -16,7 +16,7 @@ use Rattle.spectro_lts.specs.Labels.{IsLabel}
 use Rattle.spectro_io.specs.Blanks.{skip_blanks}
 use Rattle.spectro_io.specs.LineReaders.{has_line_feed}
 use Rattle.spectro_io.specs.QuotedLabels.{escaped, IsQuoted}
-use Rattle.spectro_io.proofs.QuotedLabels.{utf8_before, utf8_behind}
+use Rattle.spectro_io.proofs.Utf8Cuts.{utf8_before, utf8_behind}
 use Rattle.spectro_hmltext.specs.declared.error.TextKind.{TextKind}
 use Rattle.spectro_hmltext.specs.declared.error.TextKind.TheVariants.{BadLabel}
 use Rattle.spectro_hmltext.specs.declared.quoted_label.Taken.{Taken}

@@ -6,7 +6,7 @@ use Rattle.std.proofs.lemmas.List.{append-nil}
 use Rattle.spectro_spec.specs.System.{Label}
 use Rattle.spectro_spec.specs.Formula.{Formula, Clauses, see, all, no_clauses, plus, minus}
 use Rattle.spectro_io.specs.QuotedLabels.{escaped}
-use Rattle.spectro_io.proofs.QuotedLabels.{utf8_behind}
+use Rattle.spectro_io.proofs.Utf8Cuts.{utf8_behind}
 use Rattle.spectro_hml.specs.declared.node.Clause.{Clause}
 use Rattle.spectro_hml.specs.Sheets.{SheetNode, all_node, see_node, ClausesRise, unfolded}
 use Rattle.spectro_hmltext.specs.declared.error.TextKind.{TextKind}

@@ -9,7 +9,7 @@ use Rattle.std.proofs.lemmas.Bool.Decides.{nat_tests}
 use Rattle.std.proofs.lemmas.List.Sums.{fails_before_first}
 use Rattle.std.proofs.lemmas.Str.{IsUtf8-drop, IsCharBoundary-after_ascii}
 use Rattle.spectro_io.specs.Blanks.{is_blank, skip_blanks}
-use Rattle.spectro_io.proofs.QuotedLabels.{utf8_behind}
+use Rattle.spectro_io.proofs.Utf8Cuts.{utf8_behind}
 use Rattle.spectro_hmltext.specs.declared.token.Token.{Token}
 use Rattle.spectro_hmltext.specs.declared.token.Token.TheVariants.{Truth, And, Not, Less, Greater, OpenBrace, CloseBrace, Comma, Quote, Other, End}
 use Rattle.spectro_hmltext.specs.Tokens.{Begins, word_of, word_token, mark_token, front_token, behind_front, token_of, behind_token}

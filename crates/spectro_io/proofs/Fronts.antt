@@ -1,6 +1,8 @@
 -- What two readings in a row gave, and what words at the front of a text say of it.
 use Rattle.std.proofs.Common.{◌≡◌, ◌∙◌, ℕ, Bool, true, false, cond, List, ◌++◌, take, drop, length, refl, sym, ap, take-append-drop}
 use Rattle.std.specs.Prelude.{Option, None, Some}
+use Rattle.std.specs.Str.{bytes_eq}
+use Rattle.std.proofs.Math.Seq.{take-append_seam, drop-append_seam}
 use Rattle.std.proofs.lemmas.Option.{cond_some}
 use Rattle.std.proofs.lemmas.Slice.Eq.{bytes_eq-Decides}
 use Rattle.spectro_io.specs.Fronts.{◌>>=◌, after}
@@ -14,6 +16,12 @@ bind_some (Some x) second y e = (x, refl, e)
 pub cond_else : {A : Type 0} (test : Bool) (x y : Option A) (z : A) → x ≡ None → cond test x y ≡ Some z → (test ≡ false) × (y ≡ Some z)
 cond_else true x y z none e = cc
 cond_else false x y z none e = (refl, e)
+
+-- the words at the front, and what is left
+pub after_complete : (words rest : List ℕ) → after words (words ++ rest) ≡ Some rest
+after_complete words rest =
+    let same : bytes_eq words words ≡ true = (bytes_eq-Decides words words).1 refl in
+    rw (take-append_seam words rest, same) (ap Some (drop-append_seam words rest))
 
 pub after_sound : (words text rest : List ℕ) → after words text ≡ Some rest → text ≡ words ++ rest
 after_sound words text rest e =

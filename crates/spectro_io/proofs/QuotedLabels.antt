@@ -1,44 +1,48 @@
 -- The escapes of a label, and how they are undone.
-use Rattle.std.proofs.Common.{◌≡◌, ◌∙◌, ◌⊎◌, inl, inr, ℕ, ◌+◌, ◌-◌, ◌<◌, ◌≤◌, Bool, true, false, cond, ◌||◌, not, List, [], ◌∷◌, ◌++◌, length, take, drop, get_or, Option, None, Some, refl, sym, ap, subst, arith, append_assoc, length-append}
+use Rattle.std.proofs.Common.{◌≡◌, ◌∙◌, ◌⊎◌, inl, inr, ℕ, ◌-◌, ◌<◌, ◌≤◌, Bool, true, false, cond, ◌||◌, not, List, [], ◌∷◌, ◌++◌, length, take, drop, Option, None, Some, refl, sym, ap, subst, arith, append_assoc}
 use Rattle.std.specs.Prelude.{◌==◌}
 use Rattle.std.specs.Prelude.{Vec, String, Result, Ok, Err, IfOk, IsOk, MatchOption, string_bytes}
 use Rattle.std.specs.declared.alloc.Global.{Global}
 use Rattle.std.specs.Option.{option_map}
 use Rattle.std.specs.Result.{result_ok}
-use Rattle.std.specs.Str.{bytes_eq, IsUtf8, IsCharBoundary}
+use Rattle.std.specs.Str.{bytes_eq, IsUtf8}
 use Rattle.std.specs.String.{string_vec}
-use Rattle.std.proofs.Math.Seq.{take-append_seam, drop-append_seam}
 use Rattle.std.proofs.lemmas.Bool.{true≢false, cases_Bool, eqb-true, or_cases, or_parts, or_from}
-use Rattle.std.proofs.lemmas.List.{get_or-append-add, take-append-drop}
+use Rattle.std.proofs.lemmas.List.{take-append-drop}
 use Rattle.std.proofs.lemmas.Option.{none-some, same_Some}
-use Rattle.std.proofs.lemmas.Str.{IsUtf8-append, IsUtf8-take, IsUtf8-drop, IsCharBoundary-before_ascii, IsCharBoundary-after_ascii}
+use Rattle.std.proofs.lemmas.Str.{IsUtf8-append}
 use Rattle.std.proofs.lemmas.Slice.Eq.{bytes_eq-Decides}
 use Rattle.spectro_io.specs.LineReaders.{has_line_feed}
-use Rattle.spectro_io.specs.QuotedLabels.{escaped, IsQuoted}
+use Rattle.spectro_io.specs.QuotedLabels.{is_escaped, escaped, IsQuoted}
 use Rattle.spectro_io.specs.Unescaping.{unescaped_behind}
+use Rattle.spectro_io.proofs.Utf8Cuts.{utf8_before, utf8_behind}
 
--- a quote or a backslash
-abbrev is_special : ℕ → Bool
-is_special byte = (byte == 34) || (byte == 92)
-
-special-no_line_feed : (byte : ℕ) → is_special byte ≡ true → (byte == 10) ≡ false
+special-no_line_feed : (byte : ℕ) → is_escaped byte ≡ true → (byte == 10) ≡ false
 special-no_line_feed byte special = elim (or_cases (byte == 34) (byte == 92) special) [
   | inl quote ↦ ap (λ byte. byte == 10) (eqb-true byte 34 quote)
   | inr backslash ↦ ap (λ byte. byte == 10) (eqb-true byte 92 backslash)
 ]
 
-escaped-special : (byte : ℕ) (label : List ℕ) → is_special byte ≡ true → escaped (byte ∷ label) ≡ 92 ∷ byte ∷ escaped label
+escaped-special : (byte : ℕ) (label : List ℕ) → is_escaped byte ≡ true → escaped (byte ∷ label) ≡ 92 ∷ byte ∷ escaped label
 escaped-special byte label special = rw special refl
 
-escaped-plain : (byte : ℕ) (label : List ℕ) → is_special byte ≡ false → escaped (byte ∷ label) ≡ byte ∷ escaped label
+escaped-plain : (byte : ℕ) (label : List ℕ) → is_escaped byte ≡ false → escaped (byte ∷ label) ≡ byte ∷ escaped label
 escaped-plain byte label plain = rw plain refl
+
+pub escaped-append : (front back : List ℕ) → escaped (front ++ back) ≡ escaped front ++ escaped back
+escaped-append [] back = refl
+escaped-append (byte ∷ front) back = by (is_escaped byte) refl (escaped-append front back)
+  where
+    by : (special : Bool) → is_escaped byte ≡ special → escaped (front ++ back) ≡ escaped front ++ escaped back → escaped (byte ∷ front ++ back) ≡ escaped (byte ∷ front) ++ escaped back
+    by true special later = rw (special, later) refl
+    by false special later = rw (special, later) refl
 
 -- what is escaped is undone
 pub unescaped-escaped : (label : List ℕ) → has_line_feed label ≡ false → unescaped_behind false (escaped label) ≡ Some label
 unescaped-escaped [] none = refl
-unescaped-escaped (byte ∷ label) none = by (is_special byte) refl (or_parts (byte == 10) (has_line_feed label) none).0 (unescaped-escaped label (or_parts (byte == 10) (has_line_feed label) none).1)
+unescaped-escaped (byte ∷ label) none = by (is_escaped byte) refl (or_parts (byte == 10) (has_line_feed label) none).0 (unescaped-escaped label (or_parts (byte == 10) (has_line_feed label) none).1)
   where
-    by : (special : Bool) → is_special byte ≡ special → (byte == 10) ≡ false → unescaped_behind false (escaped label) ≡ Some label → unescaped_behind false (escaped (byte ∷ label)) ≡ Some (byte ∷ label)
+    by : (special : Bool) → is_escaped byte ≡ special → (byte == 10) ≡ false → unescaped_behind false (escaped label) ≡ Some label → unescaped_behind false (escaped (byte ∷ label)) ≡ Some (byte ∷ label)
     by true special other later = rw (special, special, later) refl
     by false special other later =
         let parts = or_parts (byte == 34) (byte == 92) special in
@@ -69,10 +73,10 @@ pub unescaped-sound : (bytes : List ℕ) (backslash : Bool) (label : List ℕ) �
 unescaped-sound [] true label e = cc
 unescaped-sound [] false label e = let same : [] ≡ label = cc in (ap escaped same, ap has_line_feed (sym same))
 unescaped-sound (byte ∷ bytes) true label e =
-    let fits = kept (not (is_special byte)) (option_map (λ label. byte ∷ label) (unescaped_behind false bytes)) label e in
+    let fits = kept (not (is_escaped byte)) (option_map (λ label. byte ∷ label) (unescaped_behind false bytes)) label e in
     let rest = mapped byte (unescaped_behind false bytes) label fits.1 in
     let later = unescaped-sound bytes false rest.0 rest.1 in
-    let special : is_special byte ≡ true = elim (cases_Bool (is_special byte)) [ inl here ↦ here | inr none ↦ let h : not (is_special byte) ≡ true = ap not none in cc ] in
+    let special : is_escaped byte ≡ true = elim (cases_Bool (is_escaped byte)) [ inl here ↦ here | inr none ↦ let h : not (is_escaped byte) ≡ true = ap not none in cc ] in
     let other : (byte == 10) ≡ false = special-no_line_feed byte special in
     (ap (λ bytes. 92 ∷ byte ∷ bytes) later.0 ∙ sym (escaped-special byte rest.0 special) ∙ ap escaped (sym rest.2), ap has_line_feed rest.2 ∙ or_from (byte == 10) (has_line_feed rest.0) other later.1)
 unescaped-sound (byte ∷ bytes) false label e =
@@ -83,35 +87,19 @@ unescaped-sound (byte ∷ bytes) false label e =
       | inr other ↦
           let rest = mapped byte (unescaped_behind false bytes) label other.1 in
           let later = unescaped-sound bytes false rest.0 rest.1 in
-          let special : is_special byte ≡ false = or_from (byte == 34) (byte == 92) plain.0 other.0 in
+          let special : is_escaped byte ≡ false = or_from (byte == 34) (byte == 92) plain.0 other.0 in
           (ap (λ bytes. byte ∷ bytes) later.0 ∙ sym (escaped-plain byte rest.0 special) ∙ ap escaped (sym rest.2), ap has_line_feed rest.2 ∙ or_from (byte == 10) (has_line_feed rest.0) plain.1 later.1)
     ]
-
--- what stands before and behind a byte of ASCII in UTF-8 is UTF-8
-module _ (front : List ℕ) (byte : ℕ) (back : List ℕ) (small : byte < 128) (utf8 : IsUtf8 (front ++ byte ∷ back)) where
-  here : get_or (front ++ byte ∷ back) (length front) 0 ≡ byte
-  here = ap (λ place. get_or (front ++ byte ∷ back) place 0) (omega arith) ∙ get_or-append-add front (byte ∷ back) 0 0
-
-  pub utf8_before : IsUtf8 front
-  utf8_before =
-      let boundary : IsCharBoundary (front ++ byte ∷ back) (length front) = IsCharBoundary-before_ascii (front ++ byte ∷ back) (length front) (omega (arith, length-append front (byte ∷ back))) (omega (arith, here, small)) in
-      subst IsUtf8 (take-append_seam front (byte ∷ back)) (IsUtf8-take (front ++ byte ∷ back) (length front) utf8 boundary)
-
-  pub utf8_behind : IsUtf8 back
-  utf8_behind =
-      let boundary : IsCharBoundary (front ++ byte ∷ back) (length front + 1) = IsCharBoundary-after_ascii (front ++ byte ∷ back) (length front) utf8 (omega (arith, length-append front (byte ∷ back))) (omega (arith, here, small)) in
-      let cut : drop (length front + 1) (front ++ byte ∷ back) ≡ back = ap (λ n. drop n (front ++ byte ∷ back)) (omega (arith, length-append front (byte ∷ []))) ∙ ap (drop (length (front ++ byte ∷ []))) (sym (append_assoc front (byte ∷ []) back)) ∙ drop-append_seam (front ++ byte ∷ []) back in
-      subst IsUtf8 cut (IsUtf8-drop (front ++ byte ∷ back) (length front + 1) utf8 boundary)
 
 -- without its escapes a label is UTF-8 still
 pub utf8-escaped : (label front : List ℕ) → IsUtf8 (front ++ escaped label) → IsUtf8 (front ++ label)
 utf8-escaped [] front utf8 = utf8
-utf8-escaped (byte ∷ label) front utf8 = by (is_special byte) refl (utf8-escaped label (front ++ byte ∷ []))
+utf8-escaped (byte ∷ label) front utf8 = by (is_escaped byte) refl (utf8-escaped label (front ++ byte ∷ []))
   where
     one : (bytes : List ℕ) → (front ++ byte ∷ []) ++ bytes ≡ front ++ byte ∷ bytes
     one bytes = append_assoc front (byte ∷ []) bytes
 
-    by : (special : Bool) → is_special byte ≡ special → (IsUtf8 ((front ++ byte ∷ []) ++ escaped label) → IsUtf8 ((front ++ byte ∷ []) ++ label)) → IsUtf8 (front ++ byte ∷ label)
+    by : (special : Bool) → is_escaped byte ≡ special → (IsUtf8 ((front ++ byte ∷ []) ++ escaped label) → IsUtf8 ((front ++ byte ∷ []) ++ label)) → IsUtf8 (front ++ byte ∷ label)
     by true special later =
         let begun : IsUtf8 (front ++ 92 ∷ byte ∷ escaped label) = subst (λ b. IsUtf8 (front ++ cond b (92 ∷ byte ∷ escaped label) (byte ∷ escaped label))) special utf8 in
         let whole : IsUtf8 (front ++ byte ∷ escaped label) = IsUtf8-append front (byte ∷ escaped label) (utf8_before front 92 (byte ∷ escaped label) (omega arith) begun) (utf8_behind front 92 (byte ∷ escaped label) (omega arith) begun) in
@@ -133,6 +121,10 @@ module _ (inside : List ℕ) (label : List ℕ) (is : IsQuoted inside label) whe
       let same : found ≡ label = same_Some found label (e ∙ unescaped-quoted) in
       let short : length label ≤ 8192 = is.short in
       omega (arith, ap length same)
+
+-- what stands between quotes is of one label
+pub label-once : (inside label other : List ℕ) → IsQuoted inside label → IsQuoted inside other → label ≡ other
+label-once inside label other one two = same_Some label other (sym (unescaped-quoted inside label one) ∙ unescaped-quoted inside other two)
 
 pub found-IsQuoted : (inside found : List ℕ) → Some found ≡ unescaped_behind false inside → length found ≤ 8192 → IsQuoted inside found
 found-IsQuoted inside found e short =

@@ -11,6 +11,10 @@ is_number bytes = nat_lt 0 (length bytes) && list_all is_ascii_digit bytes
 abbrev pub number_value : List ℕ → ℕ
 number_value bytes = fold (λ value digit. 10 * value + (digit - 48)) 0 bytes
 
--- the value of a number, or the greatest value of 64 bits where it is greater
+-- the value, or the greatest of 64 bits where it is greater
+abbrev pub capped : ℕ → ℕ
+capped value = min value (2 ^ 64 - 1)
+
+-- the value of a number, capped
 abbrev pub number_of : List ℕ → Option ℕ
-number_of bytes = if is_number bytes then Some (min (number_value bytes) (2 ^ 64 - 1)) else None
+number_of bytes = if is_number bytes then Some (capped (number_value bytes)) else None

@@ -2,10 +2,14 @@
 use Rattle.std.specs.Prelude.{ℕ, ◌≡◌, ◌≤◌, ◌==◌, ◌&&◌, ◌||◌, not, Bool, true, false, List, [], ◌∷◌, ◌++◌, length, if◌then◌else◌}
 use Rattle.spectro_io.specs.LineReaders.{has_line_feed}
 
+-- a quote or a backslash
+abbrev pub is_escaped : ℕ → Bool
+is_escaped byte = (byte == 34) || (byte == 92)
+
 -- the label as it stands between the quotes
 abbrev pub escaped : List ℕ → List ℕ
 escaped [] = []
-escaped (byte ∷ bytes) = if (byte == 34) || (byte == 92) then 92 ∷ byte ∷ escaped bytes else byte ∷ escaped bytes
+escaped (byte ∷ bytes) = if is_escaped byte then 92 ∷ byte ∷ escaped bytes else byte ∷ escaped bytes
 
 -- a backslash takes the byte behind it with it, and no other byte is a quote; one may stand before these bytes
 abbrev pub is_closed_behind : Bool → List ℕ → Bool

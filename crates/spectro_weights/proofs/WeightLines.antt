@@ -16,7 +16,8 @@ use Rattle.spectro_io.specs.QuotedLabels.{IsInQuotes, IsQuoted}
 use Rattle.spectro_io.specs.Tokens.{first_token, after_token}
 use Rattle.spectro_io.specs.Unescaping.{unescaped_behind}
 use Rattle.spectro_io.proofs.LineFeeds.{before-append}
-use Rattle.spectro_io.proofs.QuotedLabels.{unescaped-escaped, utf8_before, utf8_behind}
+use Rattle.spectro_io.proofs.QuotedLabels.{unescaped-escaped}
+use Rattle.spectro_io.proofs.Utf8Cuts.{utf8_before, utf8_behind}
 use Rattle.spectro_spec.specs.Weighing.{Weight}
 use Rattle.spectro_weights.specs.WeightLines.{AreBlanks, IsWeightLine, IsEntryLine}
 use Rattle.spectro_weights.proofs.Blanks.{blanks_before, skip_blanks-blanks, skip_blanks-none, BeginsBlank, trims, trimmed-quoted, digits-no_blank, skip_blanks-digits, parts_at_blank}
