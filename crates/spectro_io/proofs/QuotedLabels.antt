@@ -1,17 +1,15 @@
 -- The escapes of a label, and how they are undone.
-use Rattle.std.proofs.Common.{◌≡◌, ◌∙◌, ◌⊎◌, inl, inr, ℕ, ◌-◌, ◌<◌, ◌≤◌, Bool, true, false, cond, ◌||◌, not, List, [], ◌∷◌, ◌++◌, length, take, drop, Option, None, Some, refl, sym, ap, subst, arith, append_assoc}
+use Rattle.std.proofs.Common.{◌≡◌, ◌∙◌, ◌⊎◌, inl, inr, ℕ, ◌<◌, ◌≤◌, Bool, true, false, cond, ◌||◌, not, List, [], ◌∷◌, ◌++◌, length, Option, None, Some, refl, sym, ap, subst, arith, append_assoc}
 use Rattle.std.specs.Prelude.{◌==◌}
 use Rattle.std.specs.Prelude.{Vec, String, Result, Ok, Err, IfOk, IsOk, MatchOption, string_bytes}
 use Rattle.std.specs.declared.alloc.Global.{Global}
 use Rattle.std.specs.Option.{option_map}
 use Rattle.std.specs.Result.{result_ok}
-use Rattle.std.specs.Str.{bytes_eq, IsUtf8}
+use Rattle.std.specs.Str.{IsUtf8}
 use Rattle.std.specs.String.{string_vec}
 use Rattle.std.proofs.lemmas.Bool.{true≢false, cases_Bool, eqb-true, or_cases, or_parts, or_from}
-use Rattle.std.proofs.lemmas.List.{take-append-drop}
 use Rattle.std.proofs.lemmas.Option.{none-some, same_Some}
 use Rattle.std.proofs.lemmas.Str.{IsUtf8-append}
-use Rattle.std.proofs.lemmas.Slice.Eq.{bytes_eq-Decides}
 use Rattle.spectro_io.specs.LineReaders.{has_line_feed}
 use Rattle.spectro_io.specs.QuotedLabels.{is_escaped, escaped, IsQuoted}
 use Rattle.spectro_io.specs.Unescaping.{unescaped_behind}
@@ -133,14 +131,6 @@ found-IsQuoted inside found e short =
 
 pub utf8-quoted : (inside label : List ℕ) → IsQuoted inside label → IsUtf8 inside → IsUtf8 label
 utf8-quoted inside label is utf8 = utf8-escaped label [] (subst IsUtf8 is.whole utf8)
-
--- a quote at both ends
-pub quotes_around : (text opened inside : List ℕ) → bytes_eq (take 1 text) (34 ∷ []) ≡ true → opened ≡ drop 1 text
-    → bytes_eq (drop (length opened - 1) opened) (34 ∷ []) ≡ true → inside ≡ take (length opened - 1) opened → text ≡ 34 ∷ inside ++ 34 ∷ []
-quotes_around text opened inside opens rest closes front =
-    let first : text ≡ (34 ∷ []) ++ opened = sym (take-append-drop 1 text) ∙ ap (λ l. l ++ drop 1 text) ((bytes_eq-Decides (take 1 text) (34 ∷ [])).0 opens) ∙ ap (λ l. (34 ∷ []) ++ l) (sym rest) in
-    let last : opened ≡ inside ++ 34 ∷ [] = sym (take-append-drop (length opened - 1) opened) ∙ ap (λ l. take (length opened - 1) opened ++ l) ((bytes_eq-Decides (drop (length opened - 1) opened) (34 ∷ [])).0 closes) ∙ ap (λ l. l ++ 34 ∷ []) (sym front) in
-    first ∙ ap (λ l. 34 ∷ l) last
 
 -- the bytes of a label that stands so in UTF-8 are taken as a text
 pub told-IsQuoted : {E : Type 0} (inside : List ℕ) (label : Vec ℕ Global) (result : Result (String Global) E) → IfOk result (λ text. string_vec text ≡ label) → (IsUtf8 label.items → IsOk result) → IsUtf8 inside

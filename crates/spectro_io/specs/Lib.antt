@@ -17,4 +17,5 @@ pub mod Buffers
 pub mod LineSteps
 pub mod NumberedLines
 pub mod QuotedLabels
+pub mod ClosingQuotes
 pub mod Unescaping

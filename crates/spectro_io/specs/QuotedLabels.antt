@@ -21,6 +21,11 @@ pub record IsInQuotes (text inside : List ℕ) : Type 0 where
   pub whole : text ≡ 34 ∷ inside ++ 34 ∷ []
   pub closed : is_closed_behind false inside ≡ true
 
+-- the text begins with a quote, and behind the next one that no backslash takes with it the rest is left
+pub record BeginsInQuotes (text inside rest : List ℕ) : Type 0 where
+  pub whole : text ≡ 34 ∷ inside ++ 34 ∷ rest
+  pub closed : is_closed_behind false inside ≡ true
+
 -- this stands for the label between the quotes; a label has at most 8192 bytes, and none of them ends a line
 pub record IsQuoted (inside label : List ℕ) : Type 0 where
   pub whole : inside ≡ escaped label

@@ -19,7 +19,7 @@ pub use line_reader::{Got, LineReader};
 pub use lines::{LineAt, line_at, without_cr};
 pub use memory::{MemShelf, MemSink, MemSource};
 pub use numbered_lines::{NumberedLine, NumberedLines};
-pub use quoted::{MAX_LABEL_BYTES, in_quotes, unquoted};
+pub use quoted::{MAX_LABEL_BYTES, in_quotes, quoted_at, unquoted};
 pub use read::{READ_LIMIT, ReadError, read_all};
 pub use text::{number, token_at, trim, trim_start};
 pub use write::{write_number, write_whole};

@@ -1,6 +1,7 @@
-ghost use Rattle.std.specs.Prelude.{◌≡◌, ◌==◌, ◌&&◌, not, ℕ, List, false, string_bytes, IfOk, MatchOption};
+ghost use Rattle.std.specs.Prelude.{◌≡◌, ◌==◌, ◌&&◌, ◌<◌, not, ℕ, List, false, length, string_bytes, IfOk, IfSome, MatchOption};
 ghost use Rattle.std.specs.Option.{option_map};
-ghost use Rattle.spectro_io.specs.QuotedLabels.{is_closed_behind, IsInQuotes, IsQuoted};
+ghost use Rattle.spectro_io.specs.ClosingQuotes.{closing_from};
+ghost use Rattle.spectro_io.specs.QuotedLabels.{BeginsInQuotes, IsInQuotes, IsQuoted};
 ghost use Rattle.spectro_io.specs.Unescaping.{is_stray, unescaped_behind};
 
 use std::alloc::{AllocError, Global};
@@ -12,26 +13,36 @@ pub const MAX_LABEL_BYTES: usize = 8192;
 pub fn in_quotes(text: &[u8]) -> Option<&[u8]>
     ensures { MatchOption result ((inside : List ℕ) → ¬ IsInQuotes text.now inside) (λ inside. IsInQuotes text.now inside.now) }
 {
-    let opened = text.strip_prefix(b"\"")?;
-    let inside = opened.strip_suffix(b"\"")?;
-    if !is_closed(inside) {
+    let (inside, rest) = quoted_at(text)?;
+    if !rest.is_empty() {
         return None;
     }
     Some(inside)
 }
 
-// Whether each quote among the bytes stands behind a backslash, and no backslash is left at their end.
-fn is_closed(bytes: &[u8]) -> bool
-    ensures { result ≡ is_closed_behind false bytes.now }
+/// What stands between a quote at the front of the text and the next one that no backslash takes with it,
+/// and what stands behind that one.
+pub fn quoted_at(text: &[u8]) -> Option<(&[u8], &[u8])>
+    ensures { MatchOption result ((inside rest : List ℕ) → ¬ BeginsInQuotes text.now inside rest) (λ parts. BeginsInQuotes text.now parts.0.now parts.1.now) }
+{
+    let opened = text.strip_prefix(b"\"")?;
+    let end = closing(opened)?;
+    Some((&opened[..end], &opened[end + 1..]))
+}
+
+// The place of the first quote that no backslash takes with it.
+fn closing(bytes: &[u8]) -> Option<usize>
+    ensures place { result ≡ closing_from 0 false bytes.now }
+    ensures within { IfSome result (λ place. place < length bytes.now) }
 {
     let mut backslash = false;
-    for byte in bytes {
+    for (i, byte) in bytes.iter().enumerate() {
         if is_end(backslash, *byte) {
-            return false;
+            return Some(i);
         }
         backslash = !backslash && *byte == b'\\';
     }
-    !backslash
+    None
 }
 
 // Whether the byte is a quote that no backslash takes with it.
@@ -110,6 +121,23 @@ mod tests {
             (b"", None),
         ] {
             assert_eq!(rt; in_quotes(text), expected, "{text:?}");
+        }
+        Ok(())
+    }
+
+    #[test]
+    fn takes_what_stands_in_quotes_at_the_front(rt: HostRuntime) -> Result<(), Fail> {
+        for (text, expected) in [
+            (b"\"\"".as_slice(), Some((b"".as_slice(), b"".as_slice()))),
+            (b"\"a\"b\"", Some((b"a", b"b\""))),
+            (b"\"a\\\"b\" 1", Some((b"a\\\"b", b" 1"))),
+            (b"\"a\\\\\"b", Some((b"a\\\\", b"b"))),
+            (b" \"a\"", None),
+            (b"\"a\\\"", None),
+            (b"\"", None),
+            (b"", None),
+        ] {
+            assert_eq!(rt; quoted_at(text), expected, "{text:?}");
         }
         Ok(())
     }
