@@ -1,6 +1,5 @@
 pub mod Entries
 pub mod Setting
-pub mod Blanks
 pub mod WeightLines
 pub mod Reading
 pub mod Judgements

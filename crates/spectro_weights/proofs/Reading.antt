@@ -62,9 +62,6 @@ module _ (old new : LinesState) (line : NumberedLine) (answer : AnswersFirst old
     number = left.0 ∙ answer.number;
   }
 
-pub reads_none : (text : List ℕ) → HasRead text (record { lines = 0; bytes = 0; left = lines_of text }) []
-reads_none text = record { front = []; lines = refl; follow = refl }
-
 pub reads_all : (text : List ℕ) (state : LinesState) (weighing : Weighing) → HasRead text state weighing → state.left ≡ [] → IsWeightText text weighing
 reads_all text state weighing so_far none =
     let all : lines_of text ≡ so_far.front = so_far.lines ∙ ap (λ left. so_far.front ++ left) none ∙ append-nil so_far.front in

@@ -1,13 +1,14 @@
 -- The first faulty line of a weight text, and its fault. Within a line each kind yields to those that are tested before it.
 use Rattle.std.specs.Prelude.{ℕ, ◌≡◌, ◌+◌, ◌<◌, ◌≤◌, true, false, List, ◌∷◌, ◌++◌, length}
 use Rattle.std.specs.Str.{IsUtf8}
+use Rattle.spectro_io.specs.Blanks.{AreBlanks}
 use Rattle.spectro_io.specs.Lines.{first_line, lines_of}
 use Rattle.spectro_io.specs.Numbers.{number_value}
 use Rattle.spectro_io.specs.NumberedLines.{IsTooLong}
 use Rattle.spectro_io.specs.QuotedLabels.{IsQuoted}
 use Rattle.spectro_spec.specs.Weighing.{Weight, Weighing}
 use Rattle.spectro_weights.specs.Setting.{is_set}
-use Rattle.spectro_weights.specs.WeightLines.{AreBlanks, IsWeightLine, IsEntryLine}
+use Rattle.spectro_weights.specs.WeightLines.{IsWeightLine, IsEntryLine}
 use Rattle.spectro_weights.specs.WeightTexts.{Before, nothing_before, Follow}
 use Rattle.spectro_weights.specs.declared.error.WeightError.{WeightError}
 use Rattle.spectro_weights.specs.declared.error.WeightError.TheVariants.{Text, OutOfMemory}

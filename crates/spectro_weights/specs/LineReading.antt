@@ -1,7 +1,7 @@
 -- What the code finds in a line.
-use Rattle.std.specs.Prelude.{ℕ, ◌≡◌, ◌-◌, ◌^◌, IsTrue, List, [], ◌∷◌, ◌++◌, min, string_bytes}
+use Rattle.std.specs.Prelude.{ℕ, ◌≡◌, IsTrue, List, [], ◌∷◌, ◌++◌, string_bytes}
 use Rattle.std.specs.Str.{IsUtf8}
-use Rattle.spectro_io.specs.Numbers.{number_value}
+use Rattle.spectro_io.specs.Numbers.{number_value, capped}
 use Rattle.spectro_io.specs.declared.numbered_lines.NumberedLine.{NumberedLine}
 use Rattle.spectro_spec.specs.Weighing.{Weight, Weighing}
 use Rattle.spectro_weights.specs.WeightLines.{IsWeightLine}
@@ -18,7 +18,7 @@ use Rattle.spectro_weights.specs.declared.line.Parts.{Parts}
 pub record ArePartsOf (line : List ℕ) (parts : Parts) : Type 0 where
   pub digits : List ℕ
   pub form : IsWeightLine line digits parts.inside.now
-  pub number : parts.number ≡ min (number_value digits) (2 ^ 64 - 1)
+  pub number : parts.number ≡ capped (number_value digits)
 
 -- the entry, as it stands in a weighing
 abbrev pub weight_in : Entry → Weight

@@ -1,14 +1,9 @@
 -- One line of a weight text: a number, and a label in quotes.
 use Rattle.std.specs.Prelude.{ℕ, ◌≡◌, ◌<◌, ◌≤◌, true, false, List, ◌∷◌, ◌++◌, length}
-use Rattle.std.specs.List.{list_all}
-use Rattle.spectro_io.specs.Blanks.{is_blank}
+use Rattle.spectro_io.specs.Blanks.{AreBlanks}
 use Rattle.spectro_io.specs.Numbers.{is_number, number_value}
 use Rattle.spectro_io.specs.QuotedLabels.{is_closed_behind, IsQuoted}
 use Rattle.spectro_spec.specs.Weighing.{Weight}
-
--- nothing but blanks
-abbrev pub AreBlanks : List ℕ → Type 0
-AreBlanks bytes = list_all is_blank bytes ≡ true
 
 -- digits, one or more blanks, and this between two quotes, of which the second is the next that no backslash takes with it; blanks may stand at both ends
 pub record IsWeightLine (line digits inside : List ℕ) : Type 0 where

@@ -1,11 +1,12 @@
 -- Weight texts: a line for each label. Lines of blanks alone count for nothing.
 use Rattle.std.specs.Prelude.{ℕ, ◌≡◌, ◌+◌, ◌<◌, false, List, [], ◌∷◌, ◌++◌, length}
 use Rattle.std.specs.Str.{IsUtf8}
+use Rattle.spectro_io.specs.Blanks.{AreBlanks}
 use Rattle.spectro_io.specs.Lines.{first_line, lines_of}
 use Rattle.spectro_io.specs.NumberedLines.{IsTooLong}
 use Rattle.spectro_spec.specs.Weighing.{Weight, Weighing}
 use Rattle.spectro_weights.specs.Setting.{is_set}
-use Rattle.spectro_weights.specs.WeightLines.{AreBlanks, IsEntryLine}
+use Rattle.spectro_weights.specs.WeightLines.{IsEntryLine}
 
 -- the label is new, and there is room for one more
 pub record HasPlace (weighing : Weighing) (entry : Weight) : Type 0 where

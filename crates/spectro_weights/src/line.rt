@@ -1,5 +1,6 @@
 ghost use Rattle.std.specs.Prelude.{◌↔◌, ℕ, List, IsTrue, IfOk, MatchOption, MatchResult};
-ghost use Rattle.spectro_weights.specs.WeightLines.{AreBlanks, IsWeightLine, IsEntryLine};
+ghost use Rattle.spectro_io.specs.Blanks.{AreBlanks};
+ghost use Rattle.spectro_weights.specs.WeightLines.{IsWeightLine, IsEntryLine};
 ghost use Rattle.spectro_weights.specs.LineReading.{ArePartsOf, weight_in};
 ghost use Rattle.spectro_weights.specs.Faults.{IsEntryFault};
 

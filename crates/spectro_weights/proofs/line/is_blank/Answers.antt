@@ -1,6 +1,6 @@
 use Rattle.std.proofs.Common.{◌∙◌, ap}
 use Rattle.spectro_io.specs.Blanks.{skip_blanks}
-use Rattle.spectro_weights.proofs.Blanks.{blank_test}
+use Rattle.spectro_io.proofs.Blanks.{blank_test}
 use Rattle.spectro_weights.proofs.line.is_blank.Goals as goal
 
 pub returns : goal.returns

@@ -4,8 +4,10 @@ use Rattle.spectro_io.specs.Blanks.{trimmed}
 use Rattle.spectro_io.specs.Numbers.{number_of}
 use Rattle.spectro_io.specs.QuotedLabels.{IsInQuotes}
 use Rattle.spectro_io.specs.Tokens.{first_token, after_token}
+use Rattle.spectro_io.proofs.ClosingQuotes.{in_quotes-once}
+use Rattle.spectro_io.proofs.Decimals.{number_of-found}
 use Rattle.spectro_weights.specs.WeightLines.{IsWeightLine}
-use Rattle.spectro_weights.proofs.WeightLines.{in_quotes_is, in_quotes-once, inside-utf8, found-IsWeightLine, some_number, found_number, told_text, no_text}
+use Rattle.spectro_weights.proofs.WeightLines.{in_quotes_is, inside-utf8, found-IsWeightLine, some_number, told_text, no_text}
 use Rattle.spectro_weights.proofs.line.parts_of.Goals as goal
 
 pub returns-in_err-number : goal.returns-in_err-number
@@ -32,7 +34,7 @@ returns c =
     let line = c.args.line.now in
     let token : c.token_at.result.0.now ≡ first_token line = c.token_at.ensures.token ∙ ap first_token c.as_bytes.ensures.value in
     let field : c.trim.result.now ≡ trimmed (after_token line) = c.trim.ensures ∙ ap trimmed (c.token_at.ensures.rest ∙ ap after_token c.as_bytes.ensures.value) in
-    let number = found_number (first_token line) c.in_ok-number.number (c.in_ok-number.ensures ∙ ap number_of token) in
+    let number = number_of-found (first_token line) c.in_ok-number.number (c.in_ok-number.ensures ∙ ap number_of token) in
     let quoted : IsInQuotes (trimmed (after_token line)) c.in_ok-inside.inside.now = subst (λ text. IsInQuotes text c.in_ok-inside.inside.now) field c.in_ok-inside.ensures in
     let same : c.in_ok-inside-2.inside.now ≡ c.in_ok-inside.inside.now = told_text c.in_ok-inside.inside.now c.from_utf8.result _ c.in_ok-inside-2.inside c.from_utf8.ensures.cases c.in_ok-inside-2.ensures.value in
     record {

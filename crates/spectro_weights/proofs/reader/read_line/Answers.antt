@@ -2,7 +2,8 @@ use Rattle.std.proofs.Common.{sym, subst}
 use Rattle.std.proofs.lemmas.Bool.{both_ways}
 use Rattle.spectro_weights.specs.Faults.{IsEntryFault, no_entry}
 use Rattle.spectro_weights.specs.LineReading.{other, weight_in}
-use Rattle.spectro_weights.specs.WeightLines.{AreBlanks, IsEntryLine}
+use Rattle.spectro_io.specs.Blanks.{AreBlanks}
+use Rattle.spectro_weights.specs.WeightLines.{IsEntryLine}
 use Rattle.spectro_weights.proofs.Reading.{told_place}
 use Rattle.spectro_weights.proofs.reader.read_line.Goals as goal
 
