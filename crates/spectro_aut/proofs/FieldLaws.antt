@@ -4,9 +4,9 @@ use Rattle.std.specs.Prelude.{Option, None, Some, nat_lt, nat_eq, ◌||◌, reve
 use Rattle.std.specs.Char.{is_ascii_digit}
 use Rattle.std.specs.List.{list_all, list_any, position_or_len}
 use Rattle.std.specs.Option.{option_map}
-use Rattle.std.specs.Str.{bytes_eq, IsAscii}
+use Rattle.std.specs.Str.{IsAscii}
 use Rattle.std.proofs.Math.Seq.{take-append_seam, drop-append_seam}
-use Rattle.std.proofs.lemmas.Bool.{both_ways, false_from_ne_true, lt-ltb, and_from, and_parts, or_parts, or_from, or_left, or_right, eqb-true, eq-eqb, ne_eqb, ltb-true, true_from_ne_false, cases_lt, cases_Bool}
+use Rattle.std.proofs.lemmas.Bool.{both_ways, false_from_ne_true, lt-ltb, and_from, and_parts, or_parts, or_from, or_left, or_right, eqb-true, eq-eqb, ne_eqb, ltb-true, true_from_ne_false, cases_lt}
 use Rattle.std.proofs.lemmas.Grind.{common_steps}
 use Rattle.std.proofs.lemmas.List.{reverse-append, reverse-reverse, take-append-drop, length-take, get_or-take, get_or_append_left, get_or_at, get_or_past, drop_more, drop-drop}
 use Rattle.std.proofs.lemmas.List.Elements.{All-from_get_or}
@@ -14,29 +14,17 @@ use Rattle.std.proofs.lemmas.List.Folds.{list_all-append, list_any-append, list_
 use Rattle.std.proofs.lemmas.List.Quantifiers.{position-Some}
 use Rattle.std.proofs.lemmas.List.Sums.{fails_before_first, position_or_len_is}
 use Rattle.std.proofs.lemmas.Option.{cond_some, same_Some, some_pair_parts}
-use Rattle.std.proofs.lemmas.Slice.Eq.{bytes_eq-Decides}
-use Rattle.spectro_io.specs.Blanks.{is_blank, skip_blanks, trimmed}
+use Rattle.spectro_io.specs.Blanks.{is_blank, trimmed}
 use Rattle.spectro_io.specs.Fronts.{after}
-use Rattle.spectro_io.specs.Numbers.{is_number, number_value}
-use Rattle.spectro_io.proofs.Fronts.{after_sound}
+use Rattle.spectro_io.specs.Numbers.{is_number, number_value, capped}
+use Rattle.spectro_io.proofs.Blanks.{trims}
+use Rattle.spectro_io.proofs.Fronts.{after_sound, after_complete}
 use Rattle.spectro_aut.specs.Fields.{IsNumberField}
 use Rattle.spectro_aut.specs.Reading.{before_last, first_split, last_split, field_number}
-
--- the words at the front, and what is left
-pub after_complete : (words rest : List ℕ) → after words (words ++ rest) ≡ Some rest
-after_complete words rest =
-    let same : bytes_eq words words ≡ true = (bytes_eq-Decides words words).1 refl in
-    rw (take-append_seam words rest, same) (ap Some (drop-append_seam words rest))
 
 -- lists in reverse
 pub reverse-cons : (x : ℕ) (xs : List ℕ) → reverse (x ∷ xs) ≡ reverse xs ++ x ∷ []
 reverse-cons x xs = reverse-append (x ∷ []) xs
-
-pub list_all-reverse : (p : ℕ → Bool) (xs : List ℕ) → list_all p xs ≡ true → list_all p (reverse xs) ≡ true
-list_all-reverse p [] all = refl
-list_all-reverse p (x ∷ xs) all =
-    let parts = and_parts (p x) (list_all p xs) all in
-    ap (list_all p) (reverse-cons x xs) ∙ list_all-append p (reverse xs) (x ∷ []) ∙ and_from _ _ (list_all-reverse p xs parts.1) (and_from _ _ parts.0 refl)
 
 pub list_any-reverse : (p : ℕ → Bool) (xs : List ℕ) → list_any p xs ≡ false → list_any p (reverse xs) ≡ false
 list_any-reverse p [] none = refl
@@ -53,54 +41,6 @@ list_any-other p byte [] all fails = refl
 list_any-other p byte (x ∷ xs) all fails =
     let parts = and_parts (p x) (list_all p xs) all in
     or_from _ _ (false_from_ne_true _ (λ same. both_ways (p x) (ap p (eqb-true x byte same) ∙ fails) parts.0)) (list_any-other p byte xs parts.1 fails)
-
--- a text is blanks, and then the rest
-pub skip_blanks_split : (text : List ℕ) → (front : List ℕ) × (list_all is_blank front ≡ true) × (text ≡ front ++ skip_blanks text)
-skip_blanks_split [] = ([], refl, refl)
-skip_blanks_split (byte ∷ text) = elim (cases_Bool (is_blank byte)) [
-  | inl blank ↦ let rest = skip_blanks_split text in (byte ∷ rest.0, and_from _ _ blank rest.1, rw blank (ap (λ l. byte ∷ l) rest.2))
-  | inr other ↦ ([], refl, rw other refl)
-]
-
-pub skip_blanks-append : (front rest : List ℕ) → list_all is_blank front ≡ true → skip_blanks (front ++ rest) ≡ skip_blanks rest
-skip_blanks-append [] rest all = refl
-skip_blanks-append (byte ∷ front) rest all =
-    let parts = and_parts (is_blank byte) (list_all is_blank front) all in
-    rw parts.0 (skip_blanks-append front rest parts.1)
-
-pub skip_blanks-cons : (byte : ℕ) (rest : List ℕ) → is_blank byte ≡ false → skip_blanks (byte ∷ rest) ≡ byte ∷ rest
-skip_blanks-cons byte rest other = rw other refl
-
--- blanks, the trimmed text, and blanks
-pub record IsTrimmed (text core : List ℕ) : Type 0 where
-  pub front : List ℕ
-  pub back : List ℕ
-  pub whole : text ≡ front ++ (core ++ back)
-  pub before : list_all is_blank front ≡ true
-  pub behind : list_all is_blank back ≡ true
-
-pub trimmed_split : (text : List ℕ) → IsTrimmed text (trimmed text)
-trimmed_split text =
-    let first = skip_blanks_split text in
-    let rest : List ℕ = skip_blanks text in
-    let last = skip_blanks_split (reverse rest) in
-    let turned : rest ≡ trimmed text ++ reverse last.0 = sym (reverse-reverse rest) ∙ ap reverse last.2 ∙ reverse-append last.0 (skip_blanks (reverse rest)) in
-    record {
-      front = first.0;
-      back = reverse last.0;
-      whole = first.2 ∙ ap (λ l. first.0 ++ l) turned;
-      before = first.1;
-      behind = list_all-reverse is_blank last.0 last.1;
-    }
-
--- between blanks, a text that begins and ends with a byte that is no blank is what trimming leaves
-pub trimmed_core : (front core back : List ℕ) (first last : ℕ) (others fore : List ℕ) → list_all is_blank front ≡ true → list_all is_blank back ≡ true → core ≡ first ∷ others → core ≡ fore ++ last ∷ []
-    → is_blank first ≡ false → is_blank last ≡ false → trimmed (front ++ (core ++ back)) ≡ core
-trimmed_core front core back first last others fore before behind begins ends opens closes =
-    let skipped : skip_blanks (front ++ (core ++ back)) ≡ core ++ back = skip_blanks-append front (core ++ back) before ∙ ap (λ l. skip_blanks (l ++ back)) begins ∙ skip_blanks-cons first (others ++ back) opens ∙ ap (λ l. l ++ back) (sym begins) in
-    let turned : reverse core ≡ last ∷ reverse fore = ap reverse ends ∙ reverse-append fore (last ∷ []) in
-    let left : skip_blanks (reverse (core ++ back)) ≡ reverse core = ap skip_blanks (reverse-append core back) ∙ skip_blanks-append (reverse back) (reverse core) (list_all-reverse is_blank back behind) ∙ ap skip_blanks turned ∙ skip_blanks-cons last (reverse fore) closes ∙ sym turned in
-    ap (λ l. reverse (skip_blanks (reverse l))) skipped ∙ ap reverse left ∙ reverse-reverse core
 
 -- what stands before a byte at the end
 pub before_last_sound : (byte : ℕ) (text front : List ℕ) → before_last byte text ≡ Some front → text ≡ front ++ byte ∷ []
@@ -193,9 +133,6 @@ last_split_complete sought front back lacks =
     rw (turned, first_split_complete sought (reverse back) (reverse front) (list_any-reverse (λ other. nat_eq other sought) back lacks), reverse-reverse front, reverse-reverse back) refl
 
 -- the digits of a number between blanks
-abbrev pub capped : ℕ → ℕ
-capped number = min number (2 ^ 64 - 1)
-
 pub field_number_sound : (text : List ℕ) (value : ℕ) → field_number text ≡ Some value → (number : ℕ) × IsNumberField text number × (value ≡ capped number)
 field_number_sound text value e =
     let found = cond_some (is_number (trimmed text)) (min (number_value (trimmed text)) (2 ^ 64 - 1)) value e in
@@ -217,7 +154,7 @@ list_all-weaker p q (x ∷ xs) weaker all = let parts = and_parts (p x) (list_al
 
 pub number_bytes : (text : List ℕ) (number : ℕ) → IsNumberField text number → list_all is_number_byte text ≡ true
 number_bytes text number field =
-    let parts = trimmed_split text in
+    let parts = trims text in
     let digits = and_parts (nat_lt 0 (length (trimmed text))) (list_all is_ascii_digit (trimmed text)) field.digits in
     ap (list_all is_number_byte) parts.whole ∙ list_all-append is_number_byte parts.front (trimmed text ++ parts.back)
     ∙ and_from _ _ (list_all-weaker is_blank is_number_byte parts.front (λ x h. or_left (is_blank x) (is_ascii_digit x) h) parts.before) (list_all-append is_number_byte (trimmed text) parts.back ∙ and_from _ _ (list_all-weaker is_ascii_digit is_number_byte (trimmed text) (λ x h. or_right (is_blank x) (is_ascii_digit x) h) digits.1) (list_all-weaker is_blank is_number_byte parts.back (λ x h. or_left (is_blank x) (is_ascii_digit x) h) parts.behind))
@@ -229,20 +166,8 @@ number_lacks text number byte field other = list_any-other is_number_byte byte t
 pub number_lacks_comma : (text : List ℕ) (number : ℕ) → IsNumberField text number → Lacks text 44
 number_lacks_comma text number field = number_lacks text number 44 field refl
 
-pub number_lacks_quote : (text : List ℕ) (number : ℕ) → IsNumberField text number → Lacks text 34
-number_lacks_quote text number field = number_lacks text number 34 field refl
-
-pub number_lacks_open : (text : List ℕ) (number : ℕ) → IsNumberField text number → Lacks text 40
-number_lacks_open text number field = number_lacks text number 40 field refl
-
-pub number_lacks_close : (text : List ℕ) (number : ℕ) → IsNumberField text number → Lacks text 41
-number_lacks_close text number field = number_lacks text number 41 field refl
-
 abbrev pub is_ascii_byte : ℕ → Bool
 is_ascii_byte byte = nat_lt byte 128
-
-pub blank_is_ascii : (byte : ℕ) → is_blank byte ≡ true → is_ascii_byte byte ≡ true
-blank_is_ascii byte blank = grind (arith, common_steps)
 
 pub number_is_ascii : (text : List ℕ) (number : ℕ) → IsNumberField text number → list_all is_ascii_byte text ≡ true
 number_is_ascii text number field = list_all-weaker is_number_byte is_ascii_byte text number_byte_is_ascii (number_bytes text number field)
@@ -250,15 +175,9 @@ number_is_ascii text number field = list_all-weaker is_number_byte is_ascii_byte
     number_byte_is_ascii : (byte : ℕ) → is_number_byte byte ≡ true → is_ascii_byte byte ≡ true
     number_byte_is_ascii byte h = grind (arith, common_steps)
 
-pub blanks_are_ascii : (text : List ℕ) → list_all is_blank text ≡ true → list_all is_ascii_byte text ≡ true
-blanks_are_ascii text all = list_all-weaker is_blank is_ascii_byte text blank_is_ascii all
-
 -- the same in std's word
 pub IsAscii-from_list_all : (text : List ℕ) → list_all is_ascii_byte text ≡ true → IsAscii text
 IsAscii-from_list_all text all i = elim (cases_lt i (length text)) [
   | inl within ↦ ltb-true _ _ (list_all-at is_ascii_byte text i all within)
   | inr past ↦ let none = get_or_past text i 0 past in omega arith
 ]
-
-pub number_IsAscii : (text : List ℕ) (number : ℕ) → IsNumberField text number → IsAscii text
-number_IsAscii text number field = IsAscii-from_list_all text (number_is_ascii text number field)

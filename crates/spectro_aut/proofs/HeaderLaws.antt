@@ -7,7 +7,9 @@ use Rattle.std.proofs.lemmas.List.{append_cancel_left}
 use Rattle.std.proofs.lemmas.Option.{same_Some}
 use Rattle.spectro_io.specs.Blanks.{is_blank, skip_blanks}
 use Rattle.spectro_io.specs.Fronts.{after}
-use Rattle.spectro_io.proofs.Fronts.{after_sound}
+use Rattle.spectro_io.specs.Numbers.{capped}
+use Rattle.spectro_io.proofs.Blanks.{blanks_before, skip_blanks-blanks}
+use Rattle.spectro_io.proofs.Fronts.{after_sound, after_complete}
 use Rattle.spectro_aut.specs.Grammar.{IsHeader, IsWithinLimits}
 use Rattle.spectro_aut.specs.Faults.{IsHeaderFault}
 use Rattle.spectro_aut.specs.Reading.{before_last, first_split, field_number, header_of, header_within, header_read, header_begun, header_in}
@@ -15,7 +17,7 @@ use Rattle.spectro_aut.specs.declared.error.AutKind.{AutKind}
 use Rattle.spectro_aut.specs.declared.error.AutKind.TheVariants.{NoHeader, BadHeader, TooManyStates, TooManyTransitions, NoState, BadInitial}
 use Rattle.spectro_aut.specs.declared.header.Header.{Header}
 use Rattle.spectro_aut.proofs.Choices.{bind_then, choice_ok, choice_err}
-use Rattle.spectro_aut.proofs.FieldLaws.{after_complete, skip_blanks_split, skip_blanks-append, before_last_sound, before_last_complete, first_split_sound, first_split_complete, capped, field_number_sound, field_number_complete, number_lacks_comma}
+use Rattle.spectro_aut.proofs.FieldLaws.{before_last_sound, before_last_complete, first_split_sound, first_split_complete, field_number_sound, field_number_complete, number_lacks_comma}
 
 -- the header has the numbers of the text, as far as 64 bits go
 pub record IsHeaderOf (text : List ℕ) (header : Header) : Type 0 where
@@ -63,10 +65,10 @@ header_of_sound text rest header begins e =
     bind_then (field_number first.0) _ header e (λ initial i e.
     bind_then (field_number second.0) _ header e (λ transitions t e.
     bind_then (field_number second.1) _ header e (λ states n e.
-    let gap = skip_blanks_split rest in
-    let whole = header_whole text rest opened fields first.0 first.1 second.0 second.1 gap.0 begins gap.2 (after_sound (40 ∷ []) (skip_blanks rest) opened o) (before_last_sound 41 opened fields z)
+    let gap = blanks_before rest in
+    let whole = header_whole text rest opened fields first.0 first.1 second.0 second.1 gap.0 begins gap.1 (after_sound (40 ∷ []) (skip_blanks rest) opened o) (before_last_sound 41 opened fields z)
     (first_split_sound 44 fields first.0 first.1 f).0 (first_split_sound 44 first.1 second.0 second.1 s).0 in
-    header_made text first.0 second.0 second.1 gap.0 initial transitions states header whole gap.1 i t n e)))))))
+    header_made text first.0 second.0 second.1 gap.0 initial transitions states header whole gap.2 i t n e)))))))
 
 pub header_of_complete : (text rest : List ℕ) (initial transitions states : ℕ) → text ≡ codes "des" ++ rest → IsHeader text initial transitions states
     → header_of rest ≡ Some (record { initial = capped initial; transitions = capped transitions; states = capped states })
@@ -78,7 +80,7 @@ header_of_complete text rest initial transitions states begins h =
     let others : List ℕ = second ++ 44 ∷ third in
     let fields : List ℕ = first ++ 44 ∷ others in
     let behind : rest ≡ h.gap ++ 40 ∷ (fields ++ 41 ∷ []) = append_cancel_left (codes "des") _ _ (sym begins ∙ h.whole ∙ header_parts h.gap first second third) in
-    let skipped : skip_blanks rest ≡ 40 ∷ (fields ++ 41 ∷ []) = ap skip_blanks behind ∙ skip_blanks-append h.gap (40 ∷ (fields ++ 41 ∷ [])) h.blanks in
+    let skipped : skip_blanks rest ≡ 40 ∷ (fields ++ 41 ∷ []) = ap skip_blanks behind ∙ skip_blanks-blanks h.gap (40 ∷ (fields ++ 41 ∷ [])) h.blanks in
     rw (
       skipped,
       before_last_complete 41 fields,

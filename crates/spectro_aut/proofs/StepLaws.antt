@@ -4,6 +4,7 @@ use Rattle.std.specs.Prelude.{Option, None, Some, Ok, Err, nat_lt, nat_le, not, 
 use Rattle.std.specs.List.{list_any}
 use Rattle.std.specs.Str.{bytes_eq, IsUtf8}
 use Rattle.std.proofs.lemmas.Bool.{both_ways, true_from_ne_false, ltb-true, ltb-false, leb-true, leb-false, lt-ltb, le-ltb, le-leb, lt-leb, or_parts, or_from, and_parts, and_from, not-true, not_from_false, false_from_ne_true}
+use Rattle.spectro_io.specs.Numbers.{capped}
 use Rattle.spectro_spec.specs.System.{System, Step}
 use Rattle.spectro_lts.specs.Labels.{labels_of}
 use Rattle.spectro_aut.specs.Fields.{IsLabelField}
@@ -13,7 +14,6 @@ use Rattle.spectro_aut.specs.Reading.{Transition, transition_of, label_of, step_
 use Rattle.spectro_aut.specs.declared.error.AutKind.{AutKind}
 use Rattle.spectro_aut.specs.declared.error.AutKind.TheVariants.{BadLine, BadLabel, LabelTooLong, StateRange, TooManyLabels, ExtraLine}
 use Rattle.spectro_aut.proofs.Choices.{choice_ok, choice_err}
-use Rattle.spectro_aut.proofs.FieldLaws.{capped}
 use Rattle.spectro_aut.proofs.TransitionLaws.{IsTransitionOf, transition_of_sound, transition_of_complete, label_of_sound, label_of_complete}
 
 -- the field of each transition that the text may be is UTF-8

@@ -8,6 +8,7 @@ use Rattle.std.proofs.lemmas.List.Elements.{Contains-append_left, Contains-appen
 use Rattle.spectro_spec.specs.System.{System, Step}
 use Rattle.spectro_spec.proofs.Members.{Contains-later}
 use Rattle.spectro_io.specs.Blanks.{trimmed}
+use Rattle.spectro_io.proofs.Blanks.{trims}
 use Rattle.spectro_lts.specs.Labels.{labels_of}
 use Rattle.spectro_lts.proofs.LabelLaws.{labels_of-push, length-labels_of_push, list_any-labels_of}
 use Rattle.spectro_aut.specs.Fields.{IsLabelField, quoted, bare}
@@ -15,13 +16,12 @@ use Rattle.spectro_aut.specs.Grammar.{IsTransition, IsStepLine, IsLabelTooMany}
 use Rattle.spectro_aut.specs.Reading.{step_in}
 use Rattle.spectro_aut.specs.Readings.{IsDraftOf, MayFollow}
 use Rattle.spectro_aut.specs.declared.header.Header.{Header}
-use Rattle.spectro_aut.proofs.FieldLaws.{trimmed_split}
 use Rattle.spectro_aut.proofs.StepLaws.{step_in_ok}
 
 -- ---- a part of a line has no byte that the line has not
 within_trimmed : (text : List ℕ) (byte : ℕ) → Contains (trimmed text) byte → Contains text byte
 within_trimmed text byte within =
-    let split = trimmed_split text in
+    let split = trims text in
     subst (λ text. Contains text byte) (sym split.whole) (Contains-append_right split.front (trimmed text ++ split.back) byte (Contains-append_left (trimmed text) split.back byte within))
 
 pub trimmed-one_line : (line : List ℕ) → (Contains line 10 → ⊥) → Contains (trimmed line) 10 → ⊥

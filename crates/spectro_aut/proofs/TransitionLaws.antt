@@ -1,22 +1,23 @@
 -- What is read as a transition is one, and each transition is read; and so its label, where the line is UTF-8.
-use Rattle.std.proofs.Common.{◌≡◌, ◌∙◌, ℕ, ◌+◌, ◌-◌, ◌<◌, Bool, true, false, cond, List, [], ◌∷◌, ◌++◌, get_or, drop, length, arith, inl, inr, refl, sym, ap, subst, append_assoc, length-append}
-use Rattle.std.specs.Prelude.{Option, Some, nat_lt, nat_eq, not, Contains}
-use Rattle.std.specs.List.{list_all, list_any}
-use Rattle.std.specs.Str.{IsUtf8, is_utf8, IsCharBoundary}
-use Rattle.std.proofs.Math.Seq.{take-append_seam, drop-append_seam}
+use Rattle.std.proofs.Common.{◌≡◌, ◌∙◌, ℕ, ◌<◌, Bool, true, false, cond, List, [], ◌∷◌, ◌++◌, length, arith, inl, inr, refl, sym, ap, subst, append_assoc}
+use Rattle.std.specs.Prelude.{Option, Some, nat_lt, nat_eq, not}
+use Rattle.std.specs.List.{list_any}
+use Rattle.std.specs.Str.{IsUtf8, is_utf8}
 use Rattle.std.proofs.lemmas.Bool.{and_from, and_parts, ltb-true, lt-ltb, not-true, not_from_false, and_right, cases_lt}
-use Rattle.std.proofs.lemmas.List.{append_cancel_right, nil_from_length, get_or_append_left, get_or-append-add}
-use Rattle.std.proofs.lemmas.List.Folds.{list_all-append}
+use Rattle.std.proofs.lemmas.List.{nil_from_length}
 use Rattle.std.proofs.lemmas.Option.{cond_some, same_Some}
-use Rattle.std.proofs.lemmas.Str.{IsUtf8-take, IsUtf8-drop, is_utf8-from_IsUtf8, IsCharBoundary-before_ascii, IsCharBoundary-after_ascii}
+use Rattle.std.proofs.lemmas.Str.{is_utf8-from_IsUtf8}
 use Rattle.spectro_io.specs.Blanks.{trimmed}
 use Rattle.spectro_io.specs.Fronts.{after, ◌>>=◌}
+use Rattle.spectro_io.specs.Numbers.{capped}
+use Rattle.spectro_io.proofs.Blanks.{trims}
 use Rattle.spectro_io.proofs.Fronts.{bind_some, after_sound}
+use Rattle.spectro_io.proofs.Utf8Cuts.{utf8_before, utf8_behind, utf8_behind_blanks, utf8_before_blanks}
 use Rattle.spectro_aut.specs.Fields.{IsLabelField}
 use Rattle.spectro_aut.specs.Grammar.{IsTransition}
 use Rattle.spectro_aut.specs.Reading.{Transition, before_last, first_split, last_split, field_number, transition_of, utf8_of, unquoted, is_bare, label_of}
 use Rattle.spectro_aut.proofs.Choices.{bind_then}
-use Rattle.spectro_aut.proofs.FieldLaws.{list_all-at, Lacks-Contains, Lacks-from_no_Contains, trimmed_split, before_last_sound, before_last_complete, first_split_sound, first_split_complete, last_split_sound, last_split_complete, capped, field_number_sound, field_number_complete, number_lacks_comma, is_ascii_byte, blanks_are_ascii}
+use Rattle.spectro_aut.proofs.FieldLaws.{Lacks-Contains, Lacks-from_no_Contains, before_last_sound, before_last_complete, first_split_sound, first_split_complete, last_split_sound, last_split_complete, field_number_sound, field_number_complete, number_lacks_comma}
 
 -- the transition has the field of the text, and its numbers, as far as 64 bits go
 pub record IsTransitionOf (text : List ℕ) (transition : Transition) : Type 0 where
@@ -81,41 +82,21 @@ transition_of_complete text source field target h =
       is_field,
     ) refl
 
--- what stands behind or before bytes of ASCII in UTF-8 is UTF-8
-pub utf8_behind : (front opening rest : List ℕ) → list_all is_ascii_byte opening ≡ true → 0 < length opening → IsUtf8 (front ++ (opening ++ rest)) → IsUtf8 rest
-utf8_behind front opening rest ascii some utf8 =
-    let text : List ℕ = front ++ (opening ++ rest) in
-    let place : ℕ = length front + (length opening - 1) in
-    let last : get_or text place 0 ≡ get_or opening (length opening - 1) 0 = get_or-append-add front (opening ++ rest) (length opening - 1) 0 ∙ get_or_append_left opening rest 0 (length opening - 1) (omega arith) in
-    let small : get_or opening (length opening - 1) 0 < 128 = ltb-true _ _ (list_all-at is_ascii_byte opening (length opening - 1) ascii (omega arith)) in
-    let boundary : IsCharBoundary text (place + 1) = IsCharBoundary-after_ascii text place utf8 (omega (arith, length-append front (opening ++ rest), length-append opening rest)) (omega (arith, last, small)) in
-    let cut : drop (place + 1) text ≡ rest = ap (λ n. drop n text) (omega (arith, length-append front opening)) ∙ ap (drop (length (front ++ opening))) (sym (append_assoc front opening rest)) ∙ drop-append_seam (front ++ opening) rest in
-    subst IsUtf8 cut (IsUtf8-drop text (place + 1) utf8 boundary)
-
-pub utf8_before : (text closing back : List ℕ) → list_all is_ascii_byte closing ≡ true → 0 < length closing → IsUtf8 (text ++ (closing ++ back)) → IsUtf8 text
-utf8_before text closing back ascii some utf8 =
-    let whole : List ℕ = text ++ (closing ++ back) in
-    let next : get_or whole (length text + 0) 0 ≡ get_or closing 0 0 = get_or-append-add text (closing ++ back) 0 0 ∙ get_or_append_left closing back 0 0 some in
-    let here : get_or whole (length text) 0 ≡ get_or closing 0 0 = ap (λ n. get_or whole n 0) (omega arith) ∙ next in
-    let small : get_or closing 0 0 < 128 = ltb-true _ _ (list_all-at is_ascii_byte closing 0 ascii some) in
-    let boundary : IsCharBoundary whole (length text) = IsCharBoundary-before_ascii whole (length text) (omega (arith, length-append text (closing ++ back), length-append closing back)) (omega (arith, here, small)) in
-    subst IsUtf8 (take-append_seam text (closing ++ back)) (IsUtf8-take whole (length text) utf8 boundary)
-
 -- where the field of a transition stands in its line
 field_place : (front first before field behind last back : List ℕ)
-    → front ++ ((40 ∷ first ++ 44 ∷ (before ++ (field ++ behind)) ++ 44 ∷ last ++ 41 ∷ []) ++ back) ≡ (front ++ 40 ∷ first) ++ ((44 ∷ before) ++ (field ++ ((behind ++ 44 ∷ []) ++ (last ++ 41 ∷ back))))
+    → front ++ ((40 ∷ first ++ 44 ∷ (before ++ (field ++ behind)) ++ 44 ∷ last ++ 41 ∷ []) ++ back) ≡ (front ++ 40 ∷ first) ++ 44 ∷ (before ++ (field ++ (behind ++ 44 ∷ (last ++ 41 ∷ back))))
 field_place front first before field behind last back = simp append_assoc
 
 pub field_utf8 : (line : List ℕ) (source : ℕ) (field : List ℕ) (target : ℕ) → IsUtf8 line → IsTransition (trimmed line) source field target → IsUtf8 field
 field_utf8 line source field target utf8 h =
-    let outer = trimmed_split line in
-    let inner = trimmed_split h.middle in
+    let outer = trims line in
+    let inner = trims h.middle in
+    let behind : List ℕ = h.last ++ 41 ∷ outer.back in
     let middle : h.middle ≡ inner.front ++ (field ++ inner.back) = inner.whole ∙ ap (λ l. inner.front ++ (l ++ inner.back)) (sym h.is_field) in
-    let whole : line ≡ (outer.front ++ 40 ∷ h.first) ++ ((44 ∷ inner.front) ++ (field ++ ((inner.back ++ 44 ∷ []) ++ (h.last ++ 41 ∷ outer.back)))) =
+    let whole : line ≡ (outer.front ++ 40 ∷ h.first) ++ 44 ∷ (inner.front ++ (field ++ (inner.back ++ 44 ∷ behind))) =
     outer.whole ∙ ap (λ l. outer.front ++ (l ++ outer.back)) (h.whole ∙ ap (λ l. 40 ∷ h.first ++ 44 ∷ l ++ 44 ∷ h.last ++ 41 ∷ []) middle) ∙ field_place outer.front h.first inner.front field inner.back h.last outer.back in
-    let closing : list_all is_ascii_byte (inner.back ++ 44 ∷ []) ≡ true = list_all-append is_ascii_byte inner.back (44 ∷ []) ∙ and_from _ _ (blanks_are_ascii inner.back inner.behind) refl in
-    let rest = utf8_behind (outer.front ++ 40 ∷ h.first) (44 ∷ inner.front) _ (blanks_are_ascii inner.front inner.before) (omega arith) (subst IsUtf8 whole utf8) in
-    utf8_before field (inner.back ++ 44 ∷ []) (h.last ++ 41 ∷ outer.back) closing (omega (arith, length-append inner.back (44 ∷ []))) rest
+    let opened = utf8_behind (outer.front ++ 40 ∷ h.first) 44 (inner.front ++ (field ++ (inner.back ++ 44 ∷ behind))) (omega arith) (subst IsUtf8 whole utf8) in
+    utf8_before_blanks field inner.back 44 behind inner.behind (omega arith) (utf8_behind_blanks inner.front (field ++ (inner.back ++ 44 ∷ behind)) inner.before opened)
 
 -- the label of a field
 label_of_bare : (field label : List ℕ) → is_bare field ≡ true → utf8_of field ≡ Some label → IsLabelField field label
@@ -144,7 +125,7 @@ pub label_of_complete : (field label : List ℕ) → IsLabelField field label �
 unfolding label_of
 label_of_complete field label (IsLabelField.quoted whole) utf8 =
     let rest : after (34 ∷ []) field ≡ Some (label ++ 34 ∷ []) = ap (after (34 ∷ [])) whole in
-    let inner : IsUtf8 label = utf8_before label (34 ∷ []) [] refl (omega arith) (utf8_behind [] (34 ∷ []) (label ++ 34 ∷ []) refl (omega arith) (subst IsUtf8 whole utf8)) in
+    let inner : IsUtf8 label = utf8_before label 34 [] (omega arith) (utf8_behind [] 34 (label ++ 34 ∷ []) (omega arith) (subst IsUtf8 whole utf8)) in
     let bare : is_bare field ≡ false = ap is_bare whole ∙ and_right (nat_lt 0 (length (34 ∷ label ++ 34 ∷ []))) false refl in
     let is : is_utf8 label ≡ true = is_utf8-from_IsUtf8 label inner in
     rw (bare, rest, before_last_complete 34 label, is) refl
@@ -153,13 +134,3 @@ label_of_complete field label (IsLabelField.bare same some none) utf8 =
     let bare : is_bare field ≡ true = and_from _ _ (lt-ltb 0 (length field) long) (not_from_false _ (Lacks-from_no_Contains field 34 none)) in
     let is : is_utf8 field ≡ true = is_utf8-from_IsUtf8 field utf8 in
     rw (bare, is) (ap Some (sym same))
-
--- a field has one label
-quote_within : (field label : List ℕ) → field ≡ 34 ∷ label ++ 34 ∷ [] → Contains field 34
-quote_within field label whole = subst (λ l. Contains l 34) (sym whole) (0, omega arith, refl)
-
-pub one_label : (field one other : List ℕ) → IsLabelField field one → IsLabelField field other → one ≡ other
-one_label field one other (IsLabelField.quoted a) (IsLabelField.quoted b) = append_cancel_right one other (34 ∷ []) (ap (drop 1) (sym a ∙ b))
-one_label field one other (IsLabelField.quoted a) (IsLabelField.bare same some none) = absurd (none (quote_within field one a))
-one_label field one other (IsLabelField.bare same some none) (IsLabelField.quoted b) = absurd (none (quote_within field other b))
-one_label field one other (IsLabelField.bare a some none) (IsLabelField.bare b more few) = a ∙ sym b

@@ -1,12 +1,11 @@
 -- The text of a system in the pieces in which it is written.
-use Rattle.std.proofs.Common.{◌≡◌, ◌∙◌, ℕ, ◌+◌, List, [], ◌∷◌, ◌++◌, length, take, drop, sym, ap, append_assoc, take-append-drop}
+use Rattle.std.proofs.Common.{◌≡◌, ◌∙◌, ℕ, ◌+◌, List, ◌++◌, length, take, drop, ap, subst, append_assoc}
 use Rattle.std.specs.Prelude.{slice_get, Some, codes}
 use Rattle.std.specs.Fmt.{decimal}
 use Rattle.std.specs.List.{flat_map}
-use Rattle.std.proofs.lemmas.Grind.{flat_map-append}
-use Rattle.std.proofs.lemmas.List.{flat_map_more, take_more}
 use Rattle.std.proofs.lemmas.Option.{slice_get_within, get_or_from_slice_get}
 use Rattle.spectro_spec.specs.System.{Label, Step, System}
+use Rattle.spectro_io.proofs.Rows.{row-more, row-stopped}
 use Rattle.spectro_lts.specs.Labels.{labels_of, IsStepAt}
 use Rattle.spectro_aut.specs.Written.{header_text, step_text}
 
@@ -29,14 +28,12 @@ step-at steps place source label_no target label step named =
 pub steps-more : (front : List ℕ) (steps : List Step) (place : ℕ) (step : Step) → slice_get steps place ≡ Some step
     → (front ++ flat_map step_text (take place steps)) ++ step_text step ≡ front ++ flat_map step_text (take (place + 1) steps)
 steps-more front steps place step found =
-    let more : take (place + 1) steps ≡ take place steps ++ step ∷ [] =
-    take_more steps place step (slice_get_within steps place step found) ∙ ap (λ last. take place steps ++ last ∷ []) (get_or_from_slice_get steps place step step found) in
-    flat_map_more step_text front (take place steps) step ∙ ap (λ steps. front ++ flat_map step_text steps) (sym more)
+    subst (λ last. (front ++ flat_map step_text (take place steps)) ++ step_text last ≡ front ++ flat_map step_text (take (place + 1) steps)) (get_or_from_slice_get steps place step step found)
+    (row-more step_text front steps place step (slice_get_within steps place step found))
 
 -- the text up to a step, and the text of the steps after it
 pub steps-parts : (front : List ℕ) (steps : List Step) (place : ℕ) (step : Step) → slice_get steps place ≡ Some step
     → front ++ flat_map step_text steps ≡ ((front ++ flat_map step_text (take place steps)) ++ step_text step) ++ flat_map step_text (drop (place + 1) steps)
 steps-parts front steps place step found =
-    let whole : flat_map step_text steps ≡ flat_map step_text (take (place + 1) steps) ++ flat_map step_text (drop (place + 1) steps) =
-    ap (flat_map step_text) (sym (take-append-drop (place + 1) steps)) ∙ flat_map-append step_text (take (place + 1) steps) (drop (place + 1) steps) in
-    ap (λ text. front ++ text) whole ∙ sym (append_assoc front _ _) ∙ ap (λ text. text ++ flat_map step_text (drop (place + 1) steps)) (sym (steps-more front steps place step found))
+    subst (λ last. front ++ flat_map step_text steps ≡ ((front ++ flat_map step_text (take place steps)) ++ step_text last) ++ flat_map step_text (drop (place + 1) steps)) (get_or_from_slice_get steps place step step found)
+    (row-stopped step_text front steps place step (slice_get_within steps place step found))

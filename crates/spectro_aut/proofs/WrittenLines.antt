@@ -10,12 +10,13 @@ use Rattle.std.proofs.lemmas.List.Folds.{list_all-append, list_any-append}
 use Rattle.std.proofs.lemmas.Str.{IsUtf8-append, IsUtf8-from_ascii}
 use Rattle.spectro_io.specs.Blanks.{is_blank, trimmed}
 use Rattle.spectro_io.specs.Lines.{without_cr}
+use Rattle.spectro_io.proofs.Blanks.{trimmed_core, trimmed-quoted}
 use Rattle.spectro_spec.specs.System.{System, Step}
 use Rattle.spectro_lts.specs.Labels.{IsLabel}
 use Rattle.spectro_aut.specs.Fields.{IsLabelField}
 use Rattle.spectro_aut.specs.Grammar.{IsHeader, IsTransition, IsStepLine}
 use Rattle.spectro_aut.specs.Written.{header_text, step_text}
-use Rattle.spectro_aut.proofs.FieldLaws.{Lacks, Lacks-from_no_Contains, trimmed_core, is_ascii_byte, IsAscii-from_list_all}
+use Rattle.spectro_aut.proofs.FieldLaws.{Lacks, Lacks-from_no_Contains, is_ascii_byte, IsAscii-from_list_all}
 use Rattle.spectro_aut.proofs.HeldLines.{IsUnbroken}
 use Rattle.spectro_aut.proofs.WrittenNumbers.{decimal_field, spaced_field, Lacks-decimal, list_all-decimal, length-decimal}
 
@@ -127,10 +128,6 @@ step_line step = step_bytes (decimal step.source) step.label (decimal step.targe
 pub step_text_line : (step : Step) (rest : List ℕ) → step_text step ++ rest ≡ step_line step ++ 10 ∷ rest
 step_text_line step rest = simp append_assoc
 
-trimmed-quoted : (label : List ℕ) → trimmed (32 ∷ 34 ∷ label ++ 34 ∷ []) ≡ 34 ∷ label ++ 34 ∷ []
-trimmed-quoted label =
-    subst (λ text. trimmed (32 ∷ text) ≡ 34 ∷ label ++ 34 ∷ []) (append-nil (34 ∷ label ++ 34 ∷ [])) (trimmed_core (32 ∷ []) (34 ∷ label ++ 34 ∷ []) [] 34 34 (label ++ 34 ∷ []) (34 ∷ label) refl refl refl refl refl refl)
-
 step_whole : (first label last : List ℕ) → step_bytes first label last ≡ 40 ∷ first ++ 44 ∷ (32 ∷ 34 ∷ label ++ 34 ∷ []) ++ 44 ∷ (32 ∷ last) ++ 41 ∷ []
 step_whole first label last = simp append_assoc
 
@@ -142,7 +139,7 @@ IsStepLine-step_line step source target =
       last = 32 ∷ decimal step.target;
       whole = step_whole (decimal step.source) step.label (decimal step.target);
       is_source = decimal_field step.source source;
-      is_field = sym (trimmed-quoted step.label);
+      is_field = sym (trimmed-quoted (32 ∷ []) step.label [] refl refl);
       is_target = spaced_field step.target target;
     } in
     (34 ∷ step.label ++ 34 ∷ [], is_transition, IsLabelField.quoted refl)
