@@ -15,7 +15,8 @@ use Rattle.spectro_spec.specs.System.{Label}
 use Rattle.spectro_lts.specs.Labels.{IsLabel}
 use Rattle.spectro_io.specs.Blanks.{skip_blanks}
 use Rattle.spectro_io.specs.LineReaders.{has_line_feed}
-use Rattle.spectro_io.specs.QuotedLabels.{escaped, IsQuoted}
+use Rattle.spectro_io.specs.QuotedLabels.{is_escaped, escaped, IsQuoted}
+use Rattle.spectro_io.proofs.QuotedLabels.{escaped-append}
 use Rattle.spectro_io.proofs.Utf8Cuts.{utf8_before, utf8_behind}
 use Rattle.spectro_hmltext.specs.declared.error.TextKind.{TextKind}
 use Rattle.spectro_hmltext.specs.declared.error.TextKind.TheVariants.{BadLabel}
@@ -23,7 +24,7 @@ use Rattle.spectro_hmltext.specs.declared.quoted_label.Taken.{Taken}
 use Rattle.spectro_hmltext.specs.declared.stop.Stop.{Stop}
 use Rattle.spectro_hmltext.specs.Faults.{continuation_of, IsCutLabel, IsLabelFault}
 use Rattle.spectro_hmltext.specs.FormulaTexts.{StandsLabel}
-use Rattle.spectro_hmltext.specs.Characters.{BeginsWithQuote, IsCharacterFault, IsClosedAt, IsCutBehind, IsTaken, IsTooLong, is_escaped}
+use Rattle.spectro_hmltext.specs.Characters.{BeginsWithQuote, IsCharacterFault, IsClosedAt, IsCutBehind, IsTaken, IsTooLong}
 
 -- ---- bytes that end no line
 pub no_line_feed-All : (bytes : List ℕ) → All (λ byte. byte ≢ 10) bytes → ¬ Contains bytes 10
@@ -35,23 +36,20 @@ All-has_line_feed (byte ∷ bytes) none =
     let parts = or_parts (byte == 10) (has_line_feed bytes) none in
     All-cons (λ byte. byte ≢ 10) byte bytes (eqb-false byte 10 parts.0) (All-has_line_feed bytes parts.1)
 
+pub has_line_feed-none : (bytes : List ℕ) → ¬ Contains bytes 10 → has_line_feed bytes ≡ false
+has_line_feed-none bytes none = list_any_none (λ byte. byte == 10) bytes (All-from_get_or (λ byte. (byte == 10) ≡ false) bytes 0 (λ i within. ne_eqb (get_or bytes i 0) 10 (λ e. none (subst (Contains bytes) e (Contains-get_or bytes i 0 within)))))
+
 -- what stands for a label is one
 pub IsLabel-quoted : (inside label : List ℕ) → IsQuoted inside label → IsLabel label
 IsLabel-quoted inside label is = record { short = is.short; one_line = no_line_feed-All label (All-has_line_feed label is.one_line) }
 
 -- ---- what is escaped
-pub escaped-append : (front back : List ℕ) → escaped (front ++ back) ≡ escaped front ++ escaped back
-escaped-append [] back = refl
-escaped-append (byte ∷ front) back = by (is_escaped byte) refl (escaped-append front back)
-  where
-    by : (special : Bool) → is_escaped byte ≡ special → escaped (front ++ back) ≡ escaped front ++ escaped back → escaped (byte ∷ front ++ back) ≡ escaped (byte ∷ front) ++ escaped back
-    by true special later = rw (special, later) refl
-    by false special later = rw (special, later) refl
-
-abbrev IsPlain : ℕ → Type 0
+-- neither a quote nor a backslash
+abbrev pub IsPlain : ℕ → Type 0
 IsPlain byte = (byte ≢ 34) × (byte ≢ 92)
 
-escaped-plain : (bytes : List ℕ) → All IsPlain bytes → escaped bytes ≡ bytes
+-- bytes of which none is a quote or a backslash
+pub escaped-plain : (bytes : List ℕ) → All IsPlain bytes → escaped bytes ≡ bytes
 escaped-plain [] plain = refl
 escaped-plain (byte ∷ bytes) plain =
     let here = All-head IsPlain byte bytes plain in
@@ -245,13 +243,10 @@ module _ (text inside : List ℕ) (opens : skip_blanks text ≡ 34 ∷ inside) w
   pub fault_where_cut : (left : List ℕ) (kind : TextKind) → IsCutBehind inside left kind → IsLabelFault text left kind
   fault_where_cut left kind cut = IsLabelFault.cut cut.label cut.after (opens ∙ ap (λ inside. 34 ∷ inside) cut.whole) cut.is_label cut.cut
 
-All-has_no_line_feed : (bytes : List ℕ) → ¬ Contains bytes 10 → has_line_feed bytes ≡ false
-All-has_no_line_feed bytes none = list_any_none (λ byte. byte == 10) bytes (All-from_get_or (λ byte. (byte == 10) ≡ false) bytes 0 (λ i within. ne_eqb (get_or bytes i 0) 10 (λ e. none (subst (Contains bytes) e (Contains-get_or bytes i 0 within)))))
-
 module _ (inside : List ℕ) (end : ℕ) (closed : IsClosedAt inside end) where
   -- what stands before the closing quote stands for the label
   pub quoted_where_closed : IsQuoted (take end inside) closed.label
-  quoted_where_closed = record { whole = (closed-parts inside end closed).0; short = closed.is_label.short; one_line = All-has_no_line_feed closed.label closed.is_label.one_line }
+  quoted_where_closed = record { whole = (closed-parts inside end closed).0; short = closed.is_label.short; one_line = has_line_feed-none closed.label closed.is_label.one_line }
 
   pub utf8_where_closed : IsUtf8 inside → IsUtf8 (take end inside)
   utf8_where_closed utf8 = subst IsUtf8 (sym (closed-parts inside end closed).0) (utf8_before (escaped closed.label) 34 closed.rest (omega arith) (subst IsUtf8 closed.whole utf8))

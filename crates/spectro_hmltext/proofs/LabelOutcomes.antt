@@ -5,7 +5,7 @@ use Rattle.std.proofs.lemmas.Bool.{lt-ltb, le-ltb, or_left, or_right, or_from, a
 use Rattle.std.proofs.lemmas.List.Sums.{take_while-cons}
 use Rattle.std.proofs.lemmas.List.Elements.{Contains-append_right}
 use Rattle.spectro_io.specs.Blanks.{skip_blanks}
-use Rattle.spectro_io.specs.QuotedLabels.{escaped}
+use Rattle.spectro_io.specs.QuotedLabels.{is_escaped, escaped}
 use Rattle.spectro_spec.specs.System.{Label}
 use Rattle.spectro_hmltext.specs.declared.error.TextKind.{TextKind}
 use Rattle.spectro_hmltext.specs.declared.error.TextKind.TheVariants.{BadLabel, UnexpectedEnd}
@@ -16,10 +16,6 @@ use Rattle.spectro_hmltext.specs.FormulaTexts.{StandsLabel}
 use Rattle.spectro_hmltext.specs.Faults.{IsCutLabel, IsLabelFault, continuation_of}
 use Rattle.spectro_hmltext.proofs.Outcomes.{Outcome, given, fault, mapped, misplaced, misplaced_fault, same_fault}
 
--- a quote or a backslash
-abbrev is_special : ℕ → Bool
-is_special byte = (byte == 34) || (byte == 92)
-
 -- a byte that is not the first of its character
 abbrev is_continuation : ℕ → Bool
 is_continuation byte = nat_lt 127 byte && nat_lt byte 192
@@ -27,7 +23,7 @@ is_continuation byte = nat_lt 127 byte && nat_lt byte 192
 -- a label behind its first quote, where so many bytes of it were read; a backslash may stand before these bytes
 abbrev scanned : Bool → ℕ → List ℕ → Outcome Label
 scanned backslash taken [] = fault [] UnexpectedEnd
-scanned true taken (byte ∷ more) = if not (is_special byte) || nat_lt 8192 (taken + 1) then fault (92 ∷ byte ∷ more) BadLabel else mapped (λ label. byte ∷ label) (scanned false (taken + 1) more)
+scanned true taken (byte ∷ more) = if not (is_escaped byte) || nat_lt 8192 (taken + 1) then fault (92 ∷ byte ∷ more) BadLabel else mapped (λ label. byte ∷ label) (scanned false (taken + 1) more)
 scanned false taken (byte ∷ more) =
     if byte == 34 then given [] more
     else (if byte == 92 then scanned true taken more
@@ -47,19 +43,19 @@ continuation-cons byte more = by (is_continuation byte) (ap length (take_while-c
 
 continuation-escaped : (label after : List ℕ) → length (continuation_of after) ≡ 0 → length (continuation_of (escaped label ++ after)) ≤ length label
 continuation-escaped [] after stops = omega arith
-continuation-escaped (byte ∷ label) after stops = by (is_special byte) refl (continuation-escaped label after stops)
+continuation-escaped (byte ∷ label) after stops = by (is_escaped byte) refl (continuation-escaped label after stops)
   where
-    by : (special : Bool) → is_special byte ≡ special → length (continuation_of (escaped label ++ after)) ≤ length label → length (continuation_of (escaped (byte ∷ label) ++ after)) ≤ length (byte ∷ label)
+    by : (special : Bool) → is_escaped byte ≡ special → length (continuation_of (escaped label ++ after)) ≤ length label → length (continuation_of (escaped (byte ∷ label) ++ after)) ≤ length (byte ∷ label)
     by true special others = let none : length (continuation_of (92 ∷ byte ∷ escaped label ++ after)) ≡ 0 = refl in rw special (omega (arith, none))
     by false special others = rw special (omega (arith, others, continuation-cons byte (escaped label ++ after)))
 
 -- a byte of the label, with its escape
-scanned-special : (byte taken : ℕ) (more : List ℕ) → is_special byte ≡ true → taken + 1 ≤ 8192 → scanned false taken (92 ∷ byte ∷ more) ≡ mapped (λ label. byte ∷ label) (scanned false (taken + 1) more)
+scanned-special : (byte taken : ℕ) (more : List ℕ) → is_escaped byte ≡ true → taken + 1 ≤ 8192 → scanned false taken (92 ∷ byte ∷ more) ≡ mapped (λ label. byte ∷ label) (scanned false (taken + 1) more)
 scanned-special byte taken more special room =
     let short : nat_lt 8192 (taken + 1) ≡ false = le-ltb 8192 (taken + 1) room in
     rw (special, short) refl
 
-scanned-plain : (byte taken : ℕ) (more : List ℕ) → is_special byte ≡ false → (byte == 10) ≡ false → taken + 1 + length (continuation_of more) ≤ 8192 → scanned false taken (byte ∷ more) ≡ mapped (λ label. byte ∷ label) (scanned false (taken + 1) more)
+scanned-plain : (byte taken : ℕ) (more : List ℕ) → is_escaped byte ≡ false → (byte == 10) ≡ false → taken + 1 + length (continuation_of more) ≤ 8192 → scanned false taken (byte ∷ more) ≡ mapped (λ label. byte ∷ label) (scanned false (taken + 1) more)
 scanned-plain byte taken more plain no_end room =
     let parts = or_parts (byte == 34) (byte == 92) plain in
     let quote : (byte == 34) ≡ false = parts.0 in
@@ -69,12 +65,12 @@ scanned-plain byte taken more plain no_end room =
 
 scanned-cons : (byte : ℕ) (label after : List ℕ) (taken : ℕ) → length (continuation_of after) ≡ 0 → ¬ Contains (byte ∷ label) 10 → taken + length (byte ∷ label) ≤ 8192
     → scanned false taken (escaped (byte ∷ label) ++ after) ≡ mapped (λ label. byte ∷ label) (scanned false (taken + 1) (escaped label ++ after))
-scanned-cons byte label after taken stops one_line room = by (is_special byte) refl
+scanned-cons byte label after taken stops one_line room = by (is_escaped byte) refl
   where
     no_end : (byte == 10) ≡ false
     no_end = ne_eqb byte 10 (λ is. one_line (0, omega arith, is))
 
-    by : (special : Bool) → is_special byte ≡ special → scanned false taken (escaped (byte ∷ label) ++ after) ≡ mapped (λ label. byte ∷ label) (scanned false (taken + 1) (escaped label ++ after))
+    by : (special : Bool) → is_escaped byte ≡ special → scanned false taken (escaped (byte ∷ label) ++ after) ≡ mapped (λ label. byte ∷ label) (scanned false (taken + 1) (escaped label ++ after))
     by true special =
         let escape : escaped (byte ∷ label) ≡ 92 ∷ byte ∷ escaped label = rw special refl in
         ap (λ bytes. scanned false taken (bytes ++ after)) escape ∙ scanned-special byte taken (escaped label ++ after) special (omega arith)
@@ -99,10 +95,10 @@ scanned_fault (byte ∷ label) after left kind taken total stops one_line sum ro
     scanned-cons byte label after taken stops one_line (omega arith)
     ∙ ap (mapped (λ label. byte ∷ label)) (scanned_fault label after left kind (taken + 1) total stops (tail_one_line byte label one_line) (omega arith) room cut)
 
-special-false : (byte : ℕ) → byte ≢ 34 → byte ≢ 92 → is_special byte ≡ false
+special-false : (byte : ℕ) → byte ≢ 34 → byte ≢ 92 → is_escaped byte ≡ false
 special-false byte quote backslash = or_from (byte == 34) (byte == 92) (ne_eqb byte 34 quote) (ne_eqb byte 92 backslash)
 
-special-true : (byte : ℕ) → (byte ≡ 34) ⊎ (byte ≡ 92) → is_special byte ≡ true
+special-true : (byte : ℕ) → (byte ≡ 34) ⊎ (byte ≡ 92) → is_escaped byte ≡ true
 special-true byte (inl quote) = or_left (byte == 34) (byte == 92) (eq-eqb byte 34 quote)
 special-true byte (inr backslash) = or_right (byte == 34) (byte == 92) (eq-eqb byte 92 backslash)
 
@@ -119,12 +115,12 @@ cut_scanned : (label after left : List ℕ) (kind : TextKind) → IsCutLabel lab
 cut_scanned label after left kind (IsCutLabel.ends is is_left is_kind) = ap (scanned false (length label)) is ∙ same_fault left [] kind UnexpectedEnd is_left is_kind
 cut_scanned label after left kind (IsCutLabel.ends_in_escape is is_left is_kind) = ap (scanned false (length label)) is ∙ same_fault left [] kind UnexpectedEnd is_left is_kind
 cut_scanned label after left kind (IsCutLabel.no_escape byte more is quote backslash is_left is_kind) =
-    let plain : is_special byte ≡ false = special-false byte quote backslash in
+    let plain : is_escaped byte ≡ false = special-false byte quote backslash in
     let here : scanned false (length label) (92 ∷ byte ∷ more) ≡ fault (92 ∷ byte ∷ more) BadLabel = rw plain refl in
     ap (scanned false (length label)) is ∙ here ∙ same_fault left (92 ∷ byte ∷ more) kind BadLabel (is_left ∙ is) is_kind
 cut_scanned label after left kind (IsCutLabel.line_feed more is is_left is_kind) = ap (scanned false (length label)) is ∙ same_fault left (10 ∷ more) kind BadLabel (is_left ∙ is) is_kind
 cut_scanned label after left kind (IsCutLabel.escape_over byte more is which over is_left is_kind) =
-    let special : is_special byte ≡ true = special-true byte which in
+    let special : is_escaped byte ≡ true = special-true byte which in
     let long : nat_lt 8192 (length label + 1) ≡ true = lt-ltb 8192 (length label + 1) over in
     let here : scanned false (length label) (92 ∷ byte ∷ more) ≡ fault (92 ∷ byte ∷ more) BadLabel = rw (special, long) refl in
     ap (scanned false (length label)) is ∙ here ∙ same_fault left (92 ∷ byte ∷ more) kind BadLabel (is_left ∙ is) is_kind

@@ -1,24 +1,17 @@
 -- The clauses of a line: a text is of one list of clauses at most, and how far the code has read them.
 use Rattle.std.proofs.Common.{◌≡◌, ◌∙◌, ℕ, ◌==◌, Bool, true, false, cond, List, [], ◌∷◌, ◌++◌, map, Option, Some, None, refl, sym, ap, subst, inl, inr, append_assoc, append-nil}
 use Rattle.std.specs.Option.{option_map}
-use Rattle.std.proofs.lemmas.Bool.{cases_Bool, eqb-true, cond-true}
+use Rattle.std.proofs.lemmas.Bool.{cases_Bool, eqb-true}
 use Rattle.std.proofs.lemmas.List.{map-append}
-use Rattle.std.proofs.lemmas.Option.{none-some, same_Some, cond_some}
-use Rattle.spectro_io.specs.Numbers.{is_number, number_value, number_of}
+use Rattle.std.proofs.lemmas.Option.{none-some, same_Some}
+use Rattle.spectro_io.specs.Blanks.{AreBlanks}
+use Rattle.spectro_io.specs.Numbers.{is_number, number_value, capped, number_of}
 use Rattle.spectro_io.specs.Tokens.{first_token, after_token}
+use Rattle.spectro_io.proofs.Decimals.{number_of-number, number_of-found}
 use Rattle.spectro_hml.specs.declared.node.Clause.{Clause}
-use Rattle.spectro_hmltext.specs.NodeLines.{AreBlanks, BeginsWith, BeginsClause, AreClauses, sign_of}
-use Rattle.spectro_hmltext.specs.NodeReading.{capped, capped_clause, clause_with, clause_read, AreClausesRead}
+use Rattle.spectro_hmltext.specs.NodeLines.{BeginsWith, BeginsClause, AreClauses, sign_of}
+use Rattle.spectro_hmltext.specs.NodeReading.{capped_clause, clause_with, clause_read, AreClausesRead}
 use Rattle.spectro_hmltext.proofs.NodeTokens.{begins_with, first_token-word, clause-IsWord, clause-once, word-not_blank}
-
--- ---- numbers as they are read
-pub number_of-number : (digits : List ℕ) → is_number digits ≡ true → number_of digits ≡ Some (capped (number_value digits))
-number_of-number digits number = cond-true (is_number digits) (Some (capped (number_value digits))) None number
-
-pub number_of-found : (digits : List ℕ) (number : ℕ) → Some number ≡ number_of digits → (is_number digits ≡ true) × (number ≡ capped (number_value digits))
-number_of-found digits number found =
-    let parts = cond_some (is_number digits) (capped (number_value digits)) number (sym found) in
-    (parts.0, sym parts.1)
 
 -- ---- one clause
 pub clause_read-clause : (positive : Bool) (digits : List ℕ) → is_number digits ≡ true → clause_read (sign_of positive ∷ digits) ≡ Some (record { positive = positive; node = capped (number_value digits) })
@@ -76,9 +69,6 @@ pub record HasReadClauses (text rest : List ℕ) (read : List Clause) : Type 0 w
   pub values : read ≡ map capped_clause before
   pub sound : (later : List Clause) → AreClauses rest later → AreClauses text (before ++ later)
   pub complete : (clauses : List Clause) → AreClauses text clauses → (later : List Clause) × AreClauses rest later
-
-pub reads_none : (text : List ℕ) → HasReadClauses text text []
-reads_none text = record { before = []; values = refl; sound = λ later are. are; complete = λ clauses are. (clauses, are) }
 
 pub reads_all : (text rest : List ℕ) (read : List Clause) → HasReadClauses text rest read → AreBlanks rest → AreClausesRead text read
 reads_all text rest read so_far end =

@@ -5,15 +5,18 @@ use Rattle.std.specs.Str.{bytes_eq}
 use Rattle.std.proofs.lemmas.Bool.{true≢false}
 use Rattle.std.proofs.lemmas.Option.{none-some}
 use Rattle.std.proofs.lemmas.Slice.Eq.{bytes_eq-Decides}
-use Rattle.spectro_io.specs.Numbers.{is_number, number_value, number_of}
+use Rattle.spectro_io.specs.Blanks.{AreBlanks}
+use Rattle.spectro_io.specs.Numbers.{is_number, number_value, capped, number_of}
 use Rattle.spectro_io.specs.Tokens.{first_token, after_token}
+use Rattle.spectro_io.proofs.Decimals.{number_of-number, number_of-found}
+use Rattle.spectro_io.proofs.Tokens.{IsWord, number-IsWord}
 use Rattle.spectro_hml.specs.declared.node.Clause.{Clause}
-use Rattle.spectro_hmltext.specs.NodeLines.{AreBlanks, BeginsWith, BeginsNumber, BeginsQuoted, IsObservation, AreClauses, NodeForm, see_form, all_form, first_number, word_of, IsBehindWord, IsNodeForm}
-use Rattle.spectro_hmltext.specs.NodeReading.{capped, capped_form, IsObservationRead, AreClausesRead}
+use Rattle.spectro_hmltext.specs.NodeLines.{BeginsWith, BeginsNumber, BeginsQuoted, IsObservation, AreClauses, NodeForm, see_form, all_form, first_number, word_of, IsBehindWord, IsNodeForm}
+use Rattle.spectro_hmltext.specs.NodeReading.{capped_form, IsObservationRead, AreClausesRead}
 use Rattle.spectro_hmltext.specs.declared.node_line.Observation.{Observation}
-use Rattle.spectro_hmltext.proofs.NodeTokens.{begins_with, first_token-word, after_token-word, IsWord, number-IsWord, number-once}
+use Rattle.spectro_hmltext.proofs.NodeTokens.{begins_with, first_token-word, after_token-word, number-once}
 use Rattle.spectro_hmltext.proofs.NodeLabels.{quoted-once}
-use Rattle.spectro_hmltext.proofs.NodeClauses.{number_of-number, number_of-found, clauses-once}
+use Rattle.spectro_hmltext.proofs.NodeClauses.{clauses-once}
 
 -- ---- a number at the front of a text
 module _ (text : List ℕ) (number : ℕ) (rest : List ℕ) (begins : BeginsNumber text number rest) where
@@ -159,9 +162,6 @@ pub record IsFormRead (line : List ℕ) (read : NodeForm) : Type 0 where
   pub same : read ≡ capped_form form
 
 module _ (line digits word behind : List ℕ) (tokens : AreTokens line digits word behind) where
-  pub number-refused : None ≡ number_of digits → (form : NodeForm) → ¬ IsNodeForm line form
-  number-refused none = no_number line (none ∙ ap number_of tokens.digits_are)
-
   pub word-refused : (word ≡ codes "see" → ⊥) → (word ≡ codes "all" → ⊥) → (form : NodeForm) → ¬ IsNodeForm line form
   word-refused not_see not_all = no_word line (λ see. not_see (tokens.word_is ∙ see)) (λ all. not_all (tokens.word_is ∙ all))
 

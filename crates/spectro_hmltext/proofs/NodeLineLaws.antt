@@ -1,9 +1,6 @@
 -- A line is of one node at a place, or has one fault there.
-use Rattle.std.proofs.Common.{◌≡◌, ◌∙◌, ℕ, false, List, sym, ap, subst}
-use Rattle.std.proofs.lemmas.Option.{same_Some}
-use Rattle.spectro_io.specs.QuotedLabels.{IsQuoted}
-use Rattle.spectro_io.specs.Unescaping.{unescaped_behind}
-use Rattle.spectro_io.proofs.QuotedLabels.{unescaped-escaped}
+use Rattle.std.proofs.Common.{◌≡◌, ◌∙◌, ℕ, List, sym, ap, subst}
+use Rattle.spectro_io.proofs.QuotedLabels.{label-once}
 use Rattle.spectro_hml.specs.Sheets.{SheetNode, see_node}
 use Rattle.spectro_hmltext.specs.NodeLines.{NodeForm, see_form, all_form, HasLabel, IsNodeOf, IsNodeAtPlace, IsNodeLine}
 use Rattle.spectro_hmltext.specs.NodeFaults.{IsFormFault, bad_label, bad_number, bad_node, not_rising, IsNodeFault, bad_line, bad_form}
@@ -11,10 +8,6 @@ use Rattle.spectro_hmltext.specs.declared.node_line.NodeError.{NodeError}
 use Rattle.spectro_hmltext.proofs.NodeForms.{form-once}
 
 -- ---- nodes
-label-once : (inside label other : List ℕ) → IsQuoted inside label → IsQuoted inside other → label ≡ other
-label-once inside label other one two =
-    same_Some label other (sym (unescaped-escaped label one.one_line) ∙ ap (unescaped_behind false) (sym one.whole ∙ two.whole) ∙ unescaped-escaped other two.one_line)
-
 node-once : (form : NodeForm) (one other : SheetNode) → IsNodeOf form one → IsNodeOf form other → one ≡ other
 node-once (see_form number inside next) one other first second = first.2 ∙ ap (λ label. see_node label next) (label-once inside first.0 second.0 first.1 second.1) ∙ sym second.2
 node-once (all_form number clauses) one other first second = first ∙ sym second

@@ -4,12 +4,13 @@ use Rattle.std.specs.Prelude.{All, Result, Ok, Err, OnOk, IfErr}
 use Rattle.std.specs.Str.{IsUtf8}
 use Rattle.std.proofs.lemmas.List.Elements.{All-head, All-tail}
 use Rattle.std.proofs.lemmas.Result.{on_ok_weaker}
+use Rattle.spectro_io.specs.Numbers.{capped}
 use Rattle.spectro_io.proofs.Utf8Cuts.{utf8_before, utf8_behind}
 use Rattle.spectro_hml.specs.declared.node.Clause.{Clause}
 use Rattle.spectro_hml.specs.Sheets.{SheetNode}
 use Rattle.spectro_hmltext.specs.NodeLines.{BeginsQuoted, NodeForm, see_form, all_form, IsNodeForm, HasLabel, AreSmall, IsNodeAtPlace, IsAppended}
 use Rattle.spectro_hmltext.specs.NodeFaults.{IsFormFault, bad_label, bad_number, bad_node, not_rising, bad_form, IsRefused}
-use Rattle.spectro_hmltext.specs.NodeReading.{capped, capped_clause, capped_form, IsPut, IsFormRefused}
+use Rattle.spectro_hmltext.specs.NodeReading.{capped_clause, capped_form, IsPut, IsFormRefused}
 use Rattle.spectro_hmltext.specs.declared.node_line.NodeError.{NodeError}
 use Rattle.spectro_hmltext.specs.declared.node_line.NodeError.TheVariants.{BadLine, BadNumber, NotRising, BadNode, BadLabel, OutOfMemory}
 

@@ -6,7 +6,7 @@ use Rattle.std.proofs.lemmas.List.{append-nil}
 use Rattle.spectro_spec.specs.System.{Label}
 use Rattle.spectro_spec.specs.Formula.{Formula, Clauses, see, all, no_clauses, plus, minus}
 use Rattle.spectro_io.specs.QuotedLabels.{escaped}
-use Rattle.spectro_io.proofs.Utf8Cuts.{utf8_behind}
+use Rattle.spectro_io.proofs.Utf8Cuts.{utf8_behind, utf8-skip_blanks}
 use Rattle.spectro_hml.specs.declared.node.Clause.{Clause}
 use Rattle.spectro_hml.specs.Sheets.{SheetNode, all_node, see_node, ClausesRise, unfolded}
 use Rattle.spectro_hmltext.specs.declared.error.TextKind.{TextKind}
@@ -21,7 +21,7 @@ use Rattle.spectro_hmltext.specs.declared.stop.Stop.TheVariants.{Fault}
 use Rattle.spectro_hmltext.specs.Parts.{BeginsClause, IsNotFirst, IsRead, IsReadBehind, IsFaultBehind, IsReadClause, StandClauses, AreRead}
 use Rattle.spectro_hmltext.proofs.Numberings.{All-numbered, ClausesRise-numbered, some-size, unfolded-nodes_of, length-nodes_of, length-nodes_of_clauses, with_clauses, with_clauses-assoc, numbered-with_clauses, nodes_of-with_clauses}
 use Rattle.spectro_hmltext.proofs.TextsLeft.{shorter_label, shorter_formula, shorter_clause, left-within}
-use Rattle.spectro_hmltext.proofs.TokenLaws.{shorter_Begins, utf8_Begins, utf8-skip_blanks}
+use Rattle.spectro_hmltext.proofs.TokenLaws.{shorter_Begins, utf8_Begins}
 
 -- ---- clauses, one after the other
 -- a clause before others

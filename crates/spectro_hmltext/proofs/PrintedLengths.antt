@@ -5,11 +5,12 @@ use Rattle.spectro_spec.specs.System.{Label}
 use Rattle.spectro_spec.specs.Formula.{Formula, Clauses, see, all, no_clauses, plus, minus}
 use Rattle.spectro_io.specs.Blanks.{skip_blanks}
 use Rattle.spectro_io.specs.QuotedLabels.{escaped}
+use Rattle.spectro_io.proofs.Blanks.{length-skip_blanks}
 use Rattle.spectro_hmltext.specs.declared.token.Token.TheVariants.{Truth, And, Not, Less, Greater, OpenBrace, CloseBrace, Comma}
 use Rattle.spectro_hmltext.specs.FormulaTexts.{StandsLabel, StandsFormula, StandsConjunction, StandOthers}
 use Rattle.spectro_hmltext.specs.Printed.{label_text, formula_text, clauses_text}
 use Rattle.spectro_hmltext.specs.Laws.{PrintedTextsAreShort}
-use Rattle.spectro_hmltext.proofs.Tokens.{begins_bytes, length-skip_blanks}
+use Rattle.spectro_hmltext.proofs.Tokens.{begins_bytes}
 
 label_bytes : (text : List ℕ) (label : Label) (rest : List ℕ) → StandsLabel text label rest → length (label_text label) + length rest ≤ length text
 label_bytes text label rest stands =

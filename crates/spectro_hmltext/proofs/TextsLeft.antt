@@ -3,6 +3,7 @@ use Rattle.std.proofs.Common.{ℕ, ◌+◌, ◌<◌, ◌≤◌, Bool, true, fals
 use Rattle.spectro_spec.specs.System.{Label}
 use Rattle.spectro_spec.specs.Formula.{Formula, Clauses, see, all, no_clauses, plus, minus}
 use Rattle.spectro_io.specs.QuotedLabels.{escaped}
+use Rattle.spectro_io.proofs.Blanks.{length-skip_blanks}
 use Rattle.spectro_hmltext.specs.declared.error.TextKind.{TextKind}
 use Rattle.spectro_hmltext.specs.declared.stop.Stop.TheVariants.{Fault}
 use Rattle.spectro_hmltext.specs.declared.token.Token.TheVariants.{Truth, And, Not, Less, Greater, OpenBrace, CloseBrace, Comma}
@@ -10,7 +11,7 @@ use Rattle.spectro_hmltext.specs.FormulaTexts.{StandsLabel, StandsFormula, Stand
 use Rattle.spectro_hmltext.specs.Faults.{IsMisplaced, IsCutLabel, IsLabelFault, IsFormulaFault, IsClauseFault, AreFaultyClauses, IsTextFault}
 use Rattle.spectro_hmltext.specs.Numbering.{size, size_of_clauses}
 use Rattle.spectro_hmltext.specs.Stops.{StopsAt}
-use Rattle.spectro_hmltext.proofs.TokenLaws.{shorter_Begins, length-skip_blanks}
+use Rattle.spectro_hmltext.proofs.TokenLaws.{shorter_Begins}
 
 -- ---- behind a part
 pub shorter_label : (text : List ℕ) (label : Label) (rest : List ℕ) → StandsLabel text label rest → length rest < length text

@@ -1,38 +1,19 @@
 -- The first token of a text, and what stands behind it.
-use Rattle.std.proofs.Common.{◌≡◌, ◌≢◌, ◌∙◌, inl, inr, ℕ, ◌+◌, ◌-◌, ◌<◌, ◌≤◌, Bool, true, false, cond, List, [], ◌∷◌, length, drop, get_or, refl, sym, ap, subst, arith, length-take, length-drop}
+use Rattle.std.proofs.Common.{◌≡◌, ◌≢◌, ◌∙◌, ℕ, ◌+◌, ◌-◌, ◌<◌, ◌≤◌, Bool, true, false, cond, List, [], ◌∷◌, length, drop, get_or, refl, sym, ap, subst, arith, length-take, length-drop}
 use Rattle.std.specs.Prelude.{◌==◌, not, codes}
 use Rattle.std.specs.Char.{is_ascii_alphabetic}
 use Rattle.std.specs.List.{position_or_len}
 use Rattle.std.specs.Str.{IsUtf8, IsCharBoundary, bytes_eq}
-use Rattle.std.proofs.lemmas.Bool.{eqb-true, or_cases}
+use Rattle.std.proofs.lemmas.Bool.{eqb-true}
 use Rattle.std.proofs.lemmas.Bool.Decides.{nat_tests}
 use Rattle.std.proofs.lemmas.List.Sums.{fails_before_first}
 use Rattle.std.proofs.lemmas.Str.{IsUtf8-drop, IsCharBoundary-after_ascii}
-use Rattle.spectro_io.specs.Blanks.{is_blank, skip_blanks}
-use Rattle.spectro_io.proofs.Utf8Cuts.{utf8_behind}
+use Rattle.spectro_io.specs.Blanks.{skip_blanks}
+use Rattle.spectro_io.proofs.Blanks.{length-skip_blanks}
+use Rattle.spectro_io.proofs.Utf8Cuts.{utf8_behind, utf8-skip_blanks}
 use Rattle.spectro_hmltext.specs.declared.token.Token.{Token}
 use Rattle.spectro_hmltext.specs.declared.token.Token.TheVariants.{Truth, And, Not, Less, Greater, OpenBrace, CloseBrace, Comma, Quote, Other, End}
 use Rattle.spectro_hmltext.specs.Tokens.{Begins, word_of, word_token, mark_token, front_token, behind_front, token_of, behind_token}
-
--- ---- blanks
-blank-small : (byte : ℕ) → is_blank byte ≡ true → byte < 128
-blank-small byte blank = elim (or_cases (byte == 32) (byte == 9) blank) [ inl space ↦ omega (arith, eqb-true byte 32 space) | inr tab ↦ omega (arith, eqb-true byte 9 tab) ]
-
-pub utf8-skip_blanks : (text : List ℕ) → IsUtf8 text → IsUtf8 (skip_blanks text)
-utf8-skip_blanks [] utf8 = utf8
-utf8-skip_blanks (byte ∷ text) utf8 = by (is_blank byte) refl (utf8-skip_blanks text)
-  where
-    by : (blank : Bool) → is_blank byte ≡ blank → (IsUtf8 text → IsUtf8 (skip_blanks text)) → IsUtf8 (skip_blanks (byte ∷ text))
-    by true blank later = rw blank (later (utf8_behind [] byte text (blank-small byte blank) utf8))
-    by false blank later = rw blank utf8
-
-pub length-skip_blanks : (text : List ℕ) → length (skip_blanks text) ≤ length text
-length-skip_blanks [] = omega arith
-length-skip_blanks (byte ∷ text) = by (is_blank byte) refl (length-skip_blanks text)
-  where
-    by : (blank : Bool) → is_blank byte ≡ blank → length (skip_blanks text) ≤ length text → length (skip_blanks (byte ∷ text)) ≤ length (byte ∷ text)
-    by true blank later = rw blank (omega (arith, later))
-    by false blank later = rw blank (omega arith)
 
 -- ---- choices
 choice : {X : Type 0} (P : X → Type 0) (test : Bool) (one other : X) → (test ≡ true → P one) → (test ≡ false → P other) → P (cond test one other)

@@ -6,7 +6,8 @@ use Rattle.std.specs.List.{position_or_len}
 use Rattle.std.specs.Str.{bytes_eq}
 use Rattle.std.proofs.lemmas.Bool.{cases_Bool}
 use Rattle.std.proofs.lemmas.Slice.Eq.{bytes_eq-Decides}
-use Rattle.spectro_io.specs.Blanks.{is_blank, skip_blanks}
+use Rattle.spectro_io.specs.Blanks.{skip_blanks}
+use Rattle.spectro_io.proofs.Blanks.{length-skip_blanks}
 use Rattle.spectro_hmltext.specs.declared.token.Token.{Token}
 use Rattle.spectro_hmltext.specs.declared.token.Token.TheVariants.{Truth, And, Not, Less, Greater, OpenBrace, CloseBrace, Comma, Quote, Other}
 use Rattle.spectro_hmltext.specs.Tokens.{Begins, front_token, behind_front, word_of, word_token, mark_token}
@@ -52,11 +53,6 @@ begins_comma rest = record { first = refl; behind = refl }
 -- a space before a token says nothing
 pub begins_behind_space : (token : Token) (text rest : List ℕ) → Begins token text rest → Begins token (32 ∷ text) rest
 begins_behind_space token text rest begins = record { first = begins.first; behind = begins.behind }
-
--- blanks are skipped, so that no byte is added
-pub length-skip_blanks : (text : List ℕ) → length (skip_blanks text) ≤ length text
-length-skip_blanks [] = omega arith
-length-skip_blanks (byte ∷ text) = elim (cases_Bool (is_blank byte)) [ inl blank ↦ rw blank (omega (arith, length-skip_blanks text)) | inr none ↦ rw none (omega arith) ]
 
 -- so many bytes a token takes at the least
 abbrev pub bytes_of : Token → ℕ

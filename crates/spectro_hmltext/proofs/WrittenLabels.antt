@@ -1,29 +1,16 @@
 -- A label as it stands in a text, byte by byte and letter by letter.
-use Rattle.std.proofs.Common.{◌≡◌, ◌∙◌, inl, inr, ℕ, suc, ◌+◌, ◌<◌, Bool, true, false, cond, List, [], ◌∷◌, ◌++◌, length, take, drop, get_or, refl, sym, ap, arith, append_assoc, append-nil, length-append, take-append-drop}
-use Rattle.std.specs.Prelude.{◌==◌, ◌||◌, ◌≢◌, Result, Ok, Err, OnOk, is_ok}
+use Rattle.std.proofs.Common.{◌≡◌, ◌∙◌, ℕ, ◌+◌, ◌<◌, cond, List, [], ◌∷◌, ◌++◌, length, take, drop, get_or, sym, ap, arith, append_assoc, append-nil, length-append, take-append-drop}
+use Rattle.std.specs.Prelude.{◌≢◌, Result, Ok, Err, OnOk, is_ok}
 use Rattle.std.specs.Str.{encode_utf8_all}
 use Rattle.std.specs.Char.{encode_utf8}
-use Rattle.std.proofs.lemmas.Bool.{cases_Bool, or_from, eqb-true}
 use Rattle.std.proofs.lemmas.List.{take_more}
+use Rattle.std.proofs.lemmas.List.Elements.{All-from_get_or}
 use Rattle.std.proofs.lemmas.Str.{inside_one, encodes-append}
 use Rattle.spectro_spec.specs.System.{Label}
 use Rattle.spectro_io.specs.QuotedLabels.{escaped}
+use Rattle.spectro_io.proofs.QuotedLabels.{escaped-append}
 use Rattle.spectro_hmltext.specs.Printed.{label_text}
-
--- a quote or a backslash
-abbrev is_special : ℕ → Bool
-is_special byte = (byte == 34) || (byte == 92)
-
-escaped-plain : (byte : ℕ) (label : List ℕ) → is_special byte ≡ false → escaped (byte ∷ label) ≡ byte ∷ escaped label
-escaped-plain byte label plain = rw plain refl
-
-escaped-append : (front back : List ℕ) → escaped (front ++ back) ≡ escaped front ++ escaped back
-escaped-append [] back = refl
-escaped-append (byte ∷ front) back = by (is_special byte) refl (escaped-append front back)
-  where
-    by : (special : Bool) → is_special byte ≡ special → escaped (front ++ back) ≡ escaped front ++ escaped back → escaped ((byte ∷ front) ++ back) ≡ escaped (byte ∷ front) ++ escaped back
-    by true special later = rw (special, later) refl
-    by false special later = rw (special, later) refl
+use Rattle.spectro_hmltext.proofs.CharacterLaws.{IsPlain, escaped-plain}
 
 -- one byte more
 escaped-more : (label : List ℕ) (k : ℕ) (d : ℕ) → k < length label → escaped (take (k + 1) label) ≡ escaped (take k label) ++ escaped (get_or label k d ∷ [])
@@ -49,19 +36,9 @@ pub escaped-longer : (label : List ℕ) (k d : ℕ) → k < length label → len
 escaped-longer label k d within = ap length (escaped-more label k d within) ∙ length-append (escaped (take k label)) (escaped (get_or label k d ∷ []))
 
 -- ---- letter by letter
-apart : (a b : ℕ) → a ≢ b → (a == b) ≡ false
-apart a b other = elim (cases_Bool (a == b)) [ inl same ↦ absurd (other (eqb-true a b same)) | inr none ↦ none ]
-
--- bytes of which none is special
-plain-bytes : (bytes : List ℕ) → ((k : ℕ) → k < length bytes → (get_or bytes k 0 ≢ 34) × (get_or bytes k 0 ≢ 92)) → escaped bytes ≡ bytes
-plain-bytes [] plain = refl
-plain-bytes (byte ∷ bytes) plain =
-    let here = plain 0 (omega arith) in
-    escaped-plain byte bytes (or_from (byte == 34) (byte == 92) (apart byte 34 here.0) (apart byte 92 here.1)) ∙ ap (λ bytes. byte ∷ bytes) (plain-bytes bytes (λ k within. plain (suc k) (omega arith)))
-
 -- a letter that is neither a quote nor a backslash stands as it is
 pub escaped-letter : (letter : ℕ) → letter ≢ 34 → letter ≢ 92 → escaped (encode_utf8 letter) ≡ encode_utf8 letter
-escaped-letter letter quote backslash = plain-bytes (encode_utf8 letter) (λ k within. (other 34 (omega arith) quote k within, other 92 (omega arith) backslash k within))
+escaped-letter letter quote backslash = escaped-plain (encode_utf8 letter) (All-from_get_or IsPlain (encode_utf8 letter) 0 (λ k within. (other 34 (omega arith) quote k within, other 92 (omega arith) backslash k within)))
   where
     other : (special : ℕ) → special < 128 → letter ≢ special → (k : ℕ) → k < length (encode_utf8 letter) → get_or (encode_utf8 letter) k 0 ≢ special
     other special small not k within is =

@@ -1,49 +1,22 @@
 -- The line that is written for a node is of this node.
-use Rattle.std.proofs.Common.{◌≡◌, ◌∙◌, ℕ, ◌+◌, ◌-◌, ◌*◌, ◌/◌, ◌%◌, ◌^◌, ◌<◌, ◌≤◌, Bool, true, false, cond, ◌||◌, List, [], ◌∷◌, ◌++◌, length, refl, sym, ap, subst, reverse, append_assoc, append-nil, arith}
-use Rattle.std.specs.Prelude.{◌==◌, Contains, All, codes}
-use Rattle.std.specs.Char.{is_ascii_digit}
+use Rattle.std.proofs.Common.{◌≡◌, ◌∙◌, ℕ, ◌^◌, ◌<◌, ◌≤◌, Bool, true, false, cond, List, [], ◌∷◌, ◌++◌, refl, sym, ap, subst, append_assoc, append-nil, arith}
+use Rattle.std.specs.Prelude.{◌==◌, All, codes}
 use Rattle.std.specs.Fmt.{decimal}
-use Rattle.std.specs.List.{list_all, flat_map}
-use Rattle.std.proofs.lemmas.Bool.{and_from, lt-ltb, or_from, or_parts, ne_eqb}
-use Rattle.std.proofs.lemmas.Fmt.{decimal_by_steps, decimal_nonempty}
-use Rattle.std.proofs.lemmas.Grind.{common_steps}
-use Rattle.std.proofs.lemmas.List.{reverse-append, reverse-reverse}
-use Rattle.std.proofs.lemmas.List.Elements.{All-weaker, All-head, All-tail, Contains-append_right}
-use Rattle.std.proofs.lemmas.List.Folds.{list_all-append}
-use Rattle.std.proofs.lemmas.List.Sums.{fold-append}
-use Rattle.spectro_io.specs.LineReaders.{has_line_feed}
-use Rattle.spectro_io.specs.Numbers.{is_number, number_value}
-use Rattle.spectro_io.specs.QuotedLabels.{escaped, is_closed_behind, IsQuoted}
+use Rattle.std.specs.List.{flat_map}
+use Rattle.std.proofs.lemmas.Bool.{or_parts}
+use Rattle.std.proofs.lemmas.List.{append_cancel_right}
+use Rattle.std.proofs.lemmas.List.Elements.{All-weaker, All-head, All-tail}
+use Rattle.spectro_io.specs.Blanks.{IsApart}
+use Rattle.spectro_io.specs.QuotedLabels.{is_escaped, escaped, is_closed_behind, IsQuoted}
+use Rattle.spectro_io.proofs.Decimals.{digits_of, is_number-decimal}
 use Rattle.spectro_lts.specs.Labels.{IsLabel}
 use Rattle.spectro_hml.specs.declared.node.Clause.{Clause}
 use Rattle.spectro_hml.specs.Sheets.{SheetNode, see_node, all_node, IsNodeAt}
 use Rattle.spectro_hmltext.specs.SheetTexts.{clause_text, node_text}
-use Rattle.spectro_hmltext.specs.NodeLines.{IsApart, BeginsNumber, BeginsClause, AreClauses, see_form, all_form, IsNodeForm, IsNodeLine, sign_of}
+use Rattle.spectro_hmltext.specs.NodeLines.{BeginsNumber, BeginsClause, AreClauses, see_form, all_form, IsNodeForm, IsNodeLine, sign_of}
+use Rattle.spectro_hmltext.proofs.CharacterLaws.{has_line_feed-none}
 
 -- ---- numbers
--- digits of the number
-record IsDigitsOf (number : ℕ) (text : List ℕ) : Type 0 where
-  digits : list_all is_ascii_digit text ≡ true
-  value : number_value text ≡ number
-
-digit_of : (digit : ℕ) → digit < 10 → is_ascii_digit (48 + digit) ≡ true
-digit_of digit small = grind (arith, common_steps)
-
-digits_of_one : (number : ℕ) → number < 10 → IsDigitsOf number ((48 + number) ∷ [])
-digits_of_one number small = record { digits = and_from _ _ (digit_of number small) refl; value = omega arith }
-
-digits_of_more : (number : ℕ) (text : List ℕ) → 10 ≤ number → IsDigitsOf (number / 10) text → IsDigitsOf number (text ++ (48 + number % 10) ∷ [])
-digits_of_more number text big front = record {
-  digits = list_all-append is_ascii_digit text ((48 + number % 10) ∷ []) ∙ and_from _ _ front.digits (and_from _ _ (digit_of (number % 10) (omega arith)) refl);
-  value = let pushed = fold-append (λ value digit. 10 * value + (digit - 48)) 0 text ((48 + number % 10) ∷ []) in omega (arith, pushed, front.value);
-}
-
-digits_of : (number : ℕ) → number < 2 ^ 64 → IsDigitsOf number (decimal number)
-digits_of number small = decimal_by_steps IsDigitsOf digits_of_one digits_of_more number small
-
-is_number-decimal : (number : ℕ) → number < 2 ^ 64 → is_number (decimal number) ≡ true
-is_number-decimal number small = and_from _ _ (lt-ltb 0 (length (decimal number)) (decimal_nonempty number small)) (digits_of number small).digits
-
 decimal-number : (number : ℕ) (rest : List ℕ) → number < 2 ^ 64 → IsApart rest → BeginsNumber (decimal number ++ rest) number rest
 decimal-number number rest small apart = record {
   digits = decimal number;
@@ -55,9 +28,9 @@ decimal-number number rest small apart = record {
 -- ---- labels
 closed-escaped : (label : List ℕ) → is_closed_behind false (escaped label) ≡ true
 closed-escaped [] = refl
-closed-escaped (byte ∷ label) = by ((byte == 34) || (byte == 92)) refl (closed-escaped label)
+closed-escaped (byte ∷ label) = by (is_escaped byte) refl (closed-escaped label)
   where
-    by : (special : Bool) → ((byte == 34) || (byte == 92)) ≡ special → is_closed_behind false (escaped label) ≡ true → is_closed_behind false (escaped (byte ∷ label)) ≡ true
+    by : (special : Bool) → is_escaped byte ≡ special → is_closed_behind false (escaped label) ≡ true → is_closed_behind false (escaped (byte ∷ label)) ≡ true
     by true special later = rw special later
     by false special later =
         let parts = or_parts (byte == 34) (byte == 92) special in
@@ -65,13 +38,8 @@ closed-escaped (byte ∷ label) = by ((byte == 34) || (byte == 92)) refl (closed
         let backslash : (byte == 92) ≡ false = parts.1 in
         rw (special, quote, backslash) later
 
-no_line_feed : (label : List ℕ) → ¬ Contains label 10 → has_line_feed label ≡ false
-no_line_feed [] none = refl
-no_line_feed (byte ∷ label) none =
-    or_from (byte == 10) (has_line_feed label) (ne_eqb byte 10 (λ is. none (0, omega arith, is))) (no_line_feed label (λ within. none (Contains-append_right (byte ∷ []) label 10 within)))
-
 label-IsQuoted : (label : List ℕ) → IsLabel label → IsQuoted (escaped label) label
-label-IsQuoted label is = record { whole = refl; short = is.short; one_line = no_line_feed label is.one_line }
+label-IsQuoted label is = record { whole = refl; short = is.short; one_line = has_line_feed-none label is.one_line }
 
 -- ---- clauses
 clause_text-is : (clause : Clause) (rest : List ℕ) → clause_text clause ++ rest ≡ 32 ∷ sign_of clause.positive ∷ (decimal clause.node ++ rest)
@@ -101,12 +69,6 @@ clauses-written (clause ∷ clauses) small =
     (rest, begins, clauses-written clauses (All-tail (λ clause. clause.node ≤ 4294967295) clause clauses small))
 
 -- ---- lines
-same_line : (one other : List ℕ) → one ++ 10 ∷ [] ≡ other ++ 10 ∷ [] → one ≡ other
-same_line one other e =
-    let turned : 10 ∷ reverse one ≡ 10 ∷ reverse other = sym (reverse-append one (10 ∷ [])) ∙ ap reverse e ∙ reverse-append other (10 ∷ []) in
-    let same : reverse one ≡ reverse other = cc in
-    sym (reverse-reverse one) ∙ ap reverse same ∙ reverse-reverse other
-
 see_line : ℕ → List ℕ → ℕ → List ℕ
 see_line place label next = decimal place ++ (32 ∷ 115 ∷ 101 ∷ 101 ∷ 32 ∷ 34 ∷ (escaped label ++ 34 ∷ 32 ∷ (decimal next ++ [])))
 
@@ -173,7 +135,7 @@ all-written place clauses small small_clauses = record {
 pub written_line : (line : List ℕ) (place : ℕ) (node : SheetNode) → node_text place node ≡ line ++ codes "\n" → IsNodeAt place node → place ≤ 4294967295 → IsNodeLine line place node
 written_line line place (see_node label next) text at small =
     let below : next < place = at.1 in
-    let same : see_line place label next ≡ line = same_line (see_line place label next) line (sym (see_line-is place label next) ∙ text) in
+    let same : see_line place label next ≡ line = append_cancel_right (see_line place label next) line (10 ∷ []) (sym (see_line-is place label next) ∙ text) in
     record {
       form = see_form place (escaped label) next;
       written = subst (λ line. IsNodeForm line (see_form place (escaped label) next)) same (see-written place label next (omega arith) (omega arith));
@@ -181,7 +143,7 @@ written_line line place (see_node label next) text at small =
     }
 written_line line place (all_node clauses) text at small =
     let small_clauses : All (λ clause. clause.node ≤ 4294967295) clauses = All-weaker (λ clause. clause.node < place) (λ clause. clause.node ≤ 4294967295) (λ clause below. omega arith) clauses at.1 in
-    let same : all_line place clauses ≡ line = same_line (all_line place clauses) line (sym (all_line-is place clauses) ∙ text) in
+    let same : all_line place clauses ≡ line = append_cancel_right (all_line place clauses) line (10 ∷ []) (sym (all_line-is place clauses) ∙ text) in
     record {
       form = all_form place clauses;
       written = subst (λ line. IsNodeForm line (all_form place clauses)) same (all-written place clauses (omega arith) small_clauses);

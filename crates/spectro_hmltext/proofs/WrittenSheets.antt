@@ -3,9 +3,9 @@ use Rattle.std.proofs.Common.{◌≡◌, ◌∙◌, ℕ, ◌+◌, ◌<◌, List,
 use Rattle.std.specs.Prelude.{slice_get, Some, codes}
 use Rattle.std.specs.Fmt.{decimal}
 use Rattle.std.specs.List.{flat_map}
-use Rattle.std.proofs.lemmas.Grind.{flat_map-append}
-use Rattle.std.proofs.lemmas.List.{flat_map_more, take_more, length-take-le}
+use Rattle.std.proofs.lemmas.List.{take_more, length-take-le}
 use Rattle.std.proofs.lemmas.Option.{slice_get_within, get_or_from_slice_get}
+use Rattle.spectro_io.proofs.Rows.{row-stopped}
 use Rattle.spectro_spec.specs.System.{Label}
 use Rattle.spectro_hml.specs.declared.node.Clause.{Clause}
 use Rattle.spectro_hml.specs.Sheets.{SheetNode, see_node, all_node}
@@ -28,11 +28,6 @@ observation-pieces held number label next = six-pieces held (decimal number) (co
 abbrev pub conjunction_front : ℕ → List ℕ
 conjunction_front number = [] ++ (decimal number ++ codes " all")
 
--- the line of a conjunction up to a clause, and that one
-pub clauses-more : (front : List ℕ) (clauses : List Clause) (k : ℕ) (d : Clause) → k < length clauses
-    → (front ++ flat_map clause_text (take k clauses)) ++ clause_text (get_or clauses k d) ≡ front ++ flat_map clause_text (take (k + 1) clauses)
-clauses-more front clauses k d within = flat_map_more clause_text front (take k clauses) (get_or clauses k d) ∙ ap (λ clauses. front ++ flat_map clause_text clauses) (sym (take_more clauses k d within))
-
 -- the whole line of a conjunction behind what is held
 pub conjunction-whole : (held : List ℕ) (number : ℕ) (clauses : List Clause)
     → held ++ node_text number (all_node clauses) ≡ ((held ++ conjunction_front number) ++ flat_map clause_text clauses) ++ codes "\n"
@@ -44,12 +39,8 @@ pub conjunction-parts : (held : List ℕ) (number : ℕ) (clauses : List Clause)
     ≡ (((held ++ conjunction_front number) ++ flat_map clause_text (take k clauses)) ++ clause_text (get_or clauses k d)) ++ (flat_map clause_text (drop (k + 1) clauses) ++ codes "\n")
 conjunction-parts held number clauses k d within =
     let front : List ℕ = held ++ conjunction_front number in
-    let cut : flat_map clause_text clauses ≡ flat_map clause_text (take (k + 1) clauses) ++ flat_map clause_text (drop (k + 1) clauses) =
-    ap (flat_map clause_text) (sym (take-append-drop (k + 1) clauses)) ∙ flat_map-append clause_text (take (k + 1) clauses) (drop (k + 1) clauses) in
-    conjunction-whole held number clauses ∙ ap (λ text. (front ++ text) ++ codes "\n") cut
-    ∙ ap (λ text. text ++ codes "\n") (sym (append_assoc front (flat_map clause_text (take (k + 1) clauses)) (flat_map clause_text (drop (k + 1) clauses))))
-    ∙ append_assoc (front ++ flat_map clause_text (take (k + 1) clauses)) (flat_map clause_text (drop (k + 1) clauses)) (codes "\n")
-    ∙ ap (λ text. text ++ (flat_map clause_text (drop (k + 1) clauses) ++ codes "\n")) (sym (clauses-more front clauses k d within))
+    conjunction-whole held number clauses ∙ ap (λ text. text ++ codes "\n") (row-stopped clause_text front clauses k d within)
+    ∙ append_assoc ((front ++ flat_map clause_text (take k clauses)) ++ clause_text (get_or clauses k d)) (flat_map clause_text (drop (k + 1) clauses)) (codes "\n")
 
 -- lines of more nodes behind those of others
 nodes_text-append : (number : ℕ) (front back : List SheetNode) → nodes_text number (front ++ back) ≡ nodes_text number front ++ nodes_text (number + length front) back

@@ -1,5 +1,5 @@
 -- Where a label in quotes ends, behind its opening quote, character by character.
-use Rattle.std.specs.Prelude.{ℕ, ◌≡◌, ◌≢◌, ◌+◌, ◌<◌, ◌≤◌, ◌==◌, ◌||◌, Bool, List, ◌∷◌, ◌++◌, length, Contains}
+use Rattle.std.specs.Prelude.{ℕ, ◌≡◌, ◌≢◌, ◌+◌, ◌<◌, ◌≤◌, List, ◌∷◌, ◌++◌, length, Contains}
 use Rattle.std.specs.Str.{IsUtf8}
 use Rattle.spectro_spec.specs.System.{Label}
 use Rattle.spectro_lts.specs.Labels.{IsLabel}
@@ -23,10 +23,6 @@ pub record IsCutBehind (inside left : List ℕ) (kind : TextKind) : Type 0 where
   pub whole : inside ≡ escaped label ++ after
   pub is_label : IsLabel label
   pub cut : IsCutLabel label after left kind
-
--- a byte of a label that stands behind a backslash
-abbrev pub is_escaped : ℕ → Bool
-is_escaped byte = (byte == 34) || (byte == 92)
 
 -- a quote stands at the front of the text
 abbrev pub BeginsWithQuote : List ℕ → Type 0

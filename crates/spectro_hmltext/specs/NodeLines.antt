@@ -1,20 +1,10 @@
 -- One line of the text of a sheet: the number of a node, `see` with a label in quotes and a number, or `all` with clauses.
 use Rattle.std.specs.Prelude.{ℕ, ◌≡◌, ◌<◌, ◌≤◌, Bool, true, false, List, [], ◌∷◌, ◌++◌, length, All, codes, if◌then◌else◌}
-use Rattle.std.specs.List.{list_all}
-use Rattle.spectro_io.specs.Blanks.{is_blank}
+use Rattle.spectro_io.specs.Blanks.{AreBlanks, IsApart}
 use Rattle.spectro_io.specs.Numbers.{is_number, number_value}
 use Rattle.spectro_io.specs.QuotedLabels.{is_closed_behind, IsQuoted}
 use Rattle.spectro_hml.specs.declared.node.Clause.{Clause}
 use Rattle.spectro_hml.specs.Sheets.{SheetNode, see_node, all_node, ClausesRise}
-
--- nothing but blanks
-abbrev pub AreBlanks : List ℕ → Type 0
-AreBlanks bytes = list_all is_blank bytes ≡ true
-
--- nothing, or a blank first
-abbrev pub IsApart : List ℕ → Type 0
-IsApart [] = Unit {0}
-IsApart (byte ∷ bytes) = is_blank byte ≡ true
 
 -- blanks, if any, then the word, and behind it nothing, or a blank and what follows
 pub record BeginsWith (text word rest : List ℕ) : Type 0 where

@@ -1,7 +1,7 @@
 -- What the code finds in the line of a node.
-use Rattle.std.specs.Prelude.{ℕ, ◌≡◌, ◌+◌, ◌-◌, ◌^◌, ◌==◌, ◌&&◌, not, Bool, true, false, List, [], ◌∷◌, ◌++◌, length, map, min, Option, Some, None, if◌then◌else◌}
+use Rattle.std.specs.Prelude.{ℕ, ◌≡◌, ◌==◌, Bool, true, false, List, [], ◌∷◌, ◌++◌, length, map, Option, None, if◌then◌else◌}
 use Rattle.std.specs.Option.{option_map}
-use Rattle.spectro_io.specs.Numbers.{number_of}
+use Rattle.spectro_io.specs.Numbers.{capped, number_of}
 use Rattle.spectro_hml.specs.declared.node.Clause.{Clause}
 use Rattle.spectro_hml.specs.Sheets.{SheetNode}
 use Rattle.spectro_hmltext.specs.NodeLines.{IsObservation, AreClauses, NodeForm, see_form, all_form, IsNodeAtPlace}
@@ -9,10 +9,6 @@ use Rattle.spectro_hmltext.specs.NodeFaults.{IsFormFault}
 use Rattle.spectro_hmltext.specs.declared.node_line.NodeError.{NodeError}
 use Rattle.spectro_hmltext.specs.declared.node_line.NodeError.TheVariants.{OutOfMemory}
 use Rattle.spectro_hmltext.specs.declared.node_line.Observation.{Observation}
-
--- the number, or the greatest of 64 bits where it is greater
-abbrev pub capped : ℕ → ℕ
-capped number = min number (2 ^ 64 - 1)
 
 -- the clause, with its number as it is read
 abbrev pub capped_clause : Clause → Clause
@@ -22,11 +18,6 @@ capped_clause clause = record { positive = clause.positive; node = capped clause
 abbrev pub capped_form : NodeForm → NodeForm
 capped_form (see_form number inside next) = see_form (capped number) inside (capped next)
 capped_form (all_form number clauses) = all_form (capped number) (map capped_clause clauses)
-
--- the place of the first quote that no backslash takes with it, where the first byte has this place, and a backslash may stand before it
-abbrev pub closing_from : ℕ → Bool → List ℕ → Option ℕ
-closing_from place backslash [] = None
-closing_from place backslash (byte ∷ bytes) = if not backslash && (byte == 34) then Some place else closing_from (place + 1) (not backslash && (byte == 92)) bytes
 
 -- the text is of no observation
 abbrev pub IsNoObservation : List ℕ → Type 0

@@ -1,8 +1,8 @@
-ghost use Rattle.std.specs.Prelude.{◌≡◌, ◌≤◌, ◌==◌, ◌||◌, [], ◌∷◌, ◌++◌, length, string_bytes, encode_utf8, OnOk};
+ghost use Rattle.std.specs.Prelude.{◌≡◌, ◌≤◌, [], ◌∷◌, ◌++◌, length, string_bytes, encode_utf8, OnOk};
 ghost use Rattle.spectro_io.specs.Batches.{Puts};
 ghost use Rattle.spectro_io.specs.Bytes.{WritesWhole};
 ghost use Rattle.spectro_io.specs.Faults.{HasCause};
-ghost use Rattle.spectro_io.specs.QuotedLabels.{escaped};
+ghost use Rattle.spectro_io.specs.QuotedLabels.{is_escaped, escaped};
 ghost use Rattle.spectro_lts.specs.Labels.{IsLabel};
 ghost use Rattle.spectro_hmltext.specs.Printed.{label_text};
 
@@ -31,12 +31,12 @@ pub(crate) fn put_label<O: Sink>(label: &str, batch: &mut Batch, out: &mut O) ->
     batch.put(b"\"", out)
 }
 
-// Puts the byte, and a backslash before it where it is special.
+// Puts the byte, and a backslash before it where it has one.
 fn put_escaped<O: Sink>(byte: u8, batch: &mut Batch, out: &mut O) -> Result<(), Failed>
     ensures bytes { Puts (O.written out.old) (O.written out.new) result batch.new (batch.old ++ escaped (byte ∷ [])) }
     ensures cause { HasCause (O.faults out.old) (O.faults out.new) result }
 {
-    if is_special(byte) {
+    if is_escaped(byte) {
         batch.put(&[b'\\', byte], out)
     } else {
         batch.put(&[byte], out)
@@ -54,7 +54,7 @@ pub(crate) fn push_label(label: &str, text: &mut String) -> Result<(), AllocErro
     text.push('"')
 }
 
-// Puts the letter, and a backslash before it where it is special.
+// Puts the letter, and a backslash before it where it has one.
 fn push_escaped(letter: char, text: &mut String) -> Result<(), AllocError>
     ensures { OnOk result (string_bytes text.new ≡ string_bytes text.old ++ escaped (encode_utf8 letter)) }
 {
@@ -83,12 +83,12 @@ fn escaped_bytes(byte: u8) -> u64
     ensures value { result ≡ length (escaped (byte ∷ [])) }
     ensures few { result ≤ 2 }
 {
-    if is_special(byte) { 2 } else { 1 }
+    if is_escaped(byte) { 2 } else { 1 }
 }
 
-// Whether the byte is a quote or a backslash.
-fn is_special(byte: u8) -> bool
-    ensures { result ≡ ((byte == 34) || (byte == 92)) }
+/// Whether the byte is a quote or a backslash.
+pub(crate) fn is_escaped(byte: u8) -> bool
+    ensures { result ≡ is_escaped byte }
 {
     byte == b'"' || byte == b'\\'
 }

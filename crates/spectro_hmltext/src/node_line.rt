@@ -1,7 +1,8 @@
-ghost use Rattle.std.specs.Prelude.{◌≡◌, ◌↔◌, ◌==◌, ◌&&◌, ◌<◌, not, ℕ, false, All, List, length, IfErr, IfOk, IfSome, IsTrue, MatchOption, OnErr, OnOk};
+ghost use Rattle.std.specs.Prelude.{◌≡◌, ◌↔◌, ◌<◌, ℕ, All, List, length, IfErr, IfOk, IsTrue, MatchOption, OnErr, OnOk};
+ghost use Rattle.spectro_io.specs.Blanks.{IsApart};
 ghost use Rattle.spectro_hml.specs.Sheets.{ClausesRise, IsBeforeClause};
 ghost use Rattle.spectro_hmltext.specs.NodeFaults.{IsRefused};
-ghost use Rattle.spectro_hmltext.specs.NodeLines.{BeginsQuoted, IsApart, IsAppended, all_form, see_form};
+ghost use Rattle.spectro_hmltext.specs.NodeLines.{BeginsQuoted, IsAppended, all_form, see_form};
 ghost use Rattle.spectro_hmltext.specs.NodeReading.{
   AreClausesRead,
   AreNoClauses,
@@ -10,12 +11,11 @@ ghost use Rattle.spectro_hmltext.specs.NodeReading.{
   IsObservationRead,
   IsPut,
   clause_read,
-  closing_from,
 };
 ghost use Rattle.spectro_hmltext.specs.declared.node_line.NodeError.TheVariants.{OutOfMemory};
 
 use spectro_hml::{Clause, Sheet};
-use spectro_io::{number, token_at, trim_start, unquoted};
+use spectro_io::{number, quoted_at, token_at, trim_start, unquoted};
 use std::alloc::{AllocError, Global};
 
 // The greatest number that the line of a node may have.
@@ -84,28 +84,6 @@ pub fn parse_node_line(alloc: Global, sheet: &mut Sheet, line: &str) -> Result<(
     Err(NodeError::BadLine)
 }
 
-// The place of the first quote that no backslash takes with it.
-fn closing(bytes: &[u8]) -> Option<usize>
-    ensures place { result ≡ closing_from 0 false bytes.now }
-    ensures within { IfSome result (λ place. place < length bytes.now) }
-{
-    let mut backslash = false;
-    for (i, byte) in bytes.iter().enumerate() {
-        if is_end(backslash, *byte) {
-            return Some(i);
-        }
-        backslash = !backslash && *byte == b'\\';
-    }
-    None
-}
-
-// Whether the byte is a quote that no backslash takes with it.
-fn is_end(backslash: bool, byte: u8) -> bool
-    ensures { result ≡ (not backslash && (byte == 34)) }
-{
-    !backslash && byte == b'"'
-}
-
 // Whether nothing, or a blank, stands first.
 fn is_apart(text: &[u8]) -> bool
     ensures { IsTrue result ↔ IsApart text.now }
@@ -116,24 +94,22 @@ fn is_apart(text: &[u8]) -> bool
     }
 }
 
-// What stands between the quotes at the front of the text, and what stands behind them.
-fn quoted_at(text: &[u8]) -> Option<(&[u8], &[u8])>
+// What stands between the quotes of the first word, and what stands behind them.
+fn quoted_word(text: &[u8]) -> Option<(&[u8], &[u8])>
     ensures { MatchOption result ((inside rest : List ℕ) → ¬ BeginsQuoted text.now inside rest) (λ parts. BeginsQuoted text.now parts.0.now parts.1.now) }
 {
-    let opened = trim_start(text).strip_prefix(b"\"")?;
-    let end = closing(opened)?;
-    let rest = &opened[end + 1..];
+    let (inside, rest) = quoted_at(trim_start(text))?;
     if !is_apart(rest) {
         return None;
     }
-    Some((&opened[..end], rest))
+    Some((inside, rest))
 }
 
 // What stands between quotes, and the number behind it, where no more stands there.
 fn observation_in(text: &[u8]) -> Option<Observation<'_>>
     ensures { MatchOption result (IsNoObservation text.now) (IsObservationRead text.now) }
 {
-    let (inside, rest) = quoted_at(text)?;
+    let (inside, rest) = quoted_word(text)?;
     let (digits, back) = token_at(rest);
     let next = number(digits)?;
     if !trim_start(back).is_empty() {

@@ -1,6 +1,6 @@
 ghost use Rattle.std.specs.Prelude.{◌≡◌, ◌<◌, ◌≤◌, ◌+◌, ◌∷◌, ℕ, List, length, string_bytes, IfOk, IfErr, MatchOption};
 ghost use Rattle.std.specs.Str.{IsUtf8};
-ghost use Rattle.spectro_hmltext.specs.Characters.{BeginsPlain, BeginsWithQuote, IsCharacterFault, IsClosedAt, IsCutBehind, IsTaken, IsTooLong, is_escaped};
+ghost use Rattle.spectro_hmltext.specs.Characters.{BeginsPlain, BeginsWithQuote, IsCharacterFault, IsClosedAt, IsCutBehind, IsTaken, IsTooLong};
 ghost use Rattle.spectro_hmltext.specs.Faults.{IsLabelFault, continuation_of};
 ghost use Rattle.spectro_hmltext.specs.FormulaTexts.{StandsLabel};
 ghost use Rattle.spectro_hmltext.specs.Stops.{StopsAt};
@@ -8,6 +8,7 @@ ghost use Rattle.spectro_hmltext.specs.declared.error.TextKind.TheVariants.{BadL
 ghost use Rattle.spectro_hmltext.specs.declared.stop.Stop.TheVariants.{Fault};
 
 use crate::error::TextKind;
+use crate::label::is_escaped;
 use crate::stop::{Stop, behind};
 use crate::token::Token;
 use spectro_io::{MAX_LABEL_BYTES, unquoted};
@@ -89,13 +90,6 @@ fn take_escape(text: &[u8], bytes: usize) -> Result<Option<Taken<'_>>, Stop>
         return Err(bad_label(text));
     }
     within(text, bytes + 1, rest)
-}
-
-// Whether a label's byte stands behind a backslash.
-fn is_escaped(byte: u8) -> bool
-    ensures { result ≡ is_escaped byte }
-{
-    byte == b'"' || byte == b'\\'
 }
 
 // Takes a character that stands as it is.

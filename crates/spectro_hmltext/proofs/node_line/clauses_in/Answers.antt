@@ -2,7 +2,8 @@ use Rattle.std.proofs.Common.{◌≡◌, ◌∙◌, [], ◌∷◌, ◌++◌, ◌
 use Rattle.std.proofs.lemmas.Bool.{both_ways}
 use Rattle.spectro_io.specs.Tokens.{first_token}
 use Rattle.spectro_hmltext.specs.NodeReading.{clause_read}
-use Rattle.spectro_hmltext.proofs.NodeTokens.{none_left, after-shorter}
+use Rattle.spectro_io.proofs.Blanks.{none_left}
+use Rattle.spectro_hmltext.proofs.NodeTokens.{after-shorter}
 use Rattle.spectro_hmltext.proofs.NodeClauses.{HasReadClauses, reads_on, reads_all, reads_no_more}
 use Rattle.spectro_hmltext.proofs.node_line.clauses_in.Goals as goal
 

@@ -1,11 +1,10 @@
 use Rattle.std.proofs.Common.{◌∙◌, ap}
 use Rattle.std.proofs.lemmas.Bool.{both_ways}
-use Rattle.spectro_io.specs.Blanks.{skip_blanks}
+use Rattle.spectro_io.specs.Blanks.{skip_blanks, AreBlanks}
 use Rattle.spectro_io.specs.Numbers.{number_of}
 use Rattle.spectro_io.specs.Tokens.{first_token, after_token}
-use Rattle.spectro_hmltext.specs.NodeLines.{AreBlanks}
-use Rattle.spectro_hmltext.proofs.NodeTokens.{blank_test}
-use Rattle.spectro_hmltext.proofs.NodeClauses.{number_of-found}
+use Rattle.spectro_io.proofs.Blanks.{blank_test}
+use Rattle.spectro_io.proofs.Decimals.{number_of-found}
 use Rattle.spectro_hmltext.proofs.NodeForms.{no_next, no_end, found-observation}
 use Rattle.spectro_hmltext.proofs.node_line.observation_in.Goals as goal
 

@@ -1,5 +1,6 @@
 use Rattle.std.proofs.Common.{◌≡◌, ◌∙◌, ◌+◌, ◌-◌, ◌∷◌, ℕ, List, length, take, drop, get_or, true, false, refl, sym, subst}
-use Rattle.spectro_hmltext.specs.Characters.{IsCharacterFault, IsTooLong, is_escaped}
+use Rattle.spectro_io.specs.QuotedLabels.{is_escaped}
+use Rattle.spectro_hmltext.specs.Characters.{IsCharacterFault, IsTooLong}
 use Rattle.spectro_hmltext.specs.Stops.{StopsAt}
 use Rattle.spectro_hmltext.proofs.CharacterLaws.{escape-IsTaken, escape-too_long, no_escape-fault, taken_within, two_bytes}
 use Rattle.spectro_hmltext.proofs.StopLaws.{IfErr-StopsAt-weaker}

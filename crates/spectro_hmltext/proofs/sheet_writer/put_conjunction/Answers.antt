@@ -3,7 +3,9 @@ use Rattle.std.proofs.lemmas.List.{take_all}
 use Rattle.std.proofs.lemmas.Result.{err_from_is_err_and}
 use Rattle.spectro_io.specs.Batches.{IsPending, Puts}
 use Rattle.spectro_io.proofs.Batches.{pending-more, puts-more, puts-stopped}
-use Rattle.spectro_hmltext.proofs.WrittenSheets.{clauses-more, conjunction_front, conjunction-parts, conjunction-whole}
+use Rattle.spectro_io.proofs.Rows.{row-more}
+use Rattle.spectro_hmltext.specs.SheetTexts.{clause_text}
+use Rattle.spectro_hmltext.proofs.WrittenSheets.{conjunction_front, conjunction-parts, conjunction-whole}
 use Rattle.spectro_hmltext.proofs.sheet_writer.put_conjunction.Goals as goal
 
 -- the sink failed before the clause was out
@@ -15,7 +17,7 @@ returns-in_err-put_clause-clause-bytes g c =
 -- one clause more is out or held
 pub loop-clause-preserved : goal.loop-clause-preserved
 loop-clause-preserved g c = record {
-  bytes = subst (IsPending _ _ _) (clauses-more (c.args.batch.now ++ conjunction_front c.args.number) c.args.clauses.now c.loop-clause.clause-index _ c.loop-clause-test.true) (pending-more _ _ _ _ _ _ _ c.loop-clause.invariant.bytes c.in_ok-put_clause.ensures.bytes);
+  bytes = subst (IsPending _ _ _) (row-more clause_text (c.args.batch.now ++ conjunction_front c.args.number) c.args.clauses.now c.loop-clause.clause-index _ c.loop-clause-test.true) (pending-more _ _ _ _ _ _ _ c.loop-clause.invariant.bytes c.in_ok-put_clause.ensures.bytes);
   later = omega (arith, c.in_ok-put_clause.ensures.cause.later, c.loop-clause.invariant.later);
 }
 
