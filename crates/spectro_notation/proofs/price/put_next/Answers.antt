@@ -1,4 +1,4 @@
-use Rattle.std.proofs.Common.{◌++◌, [], ◌∷◌, append_assoc}
+use Rattle.std.proofs.Common.{[], ◌∷◌, append_assoc}
 use Rattle.spectro_io.proofs.Batches.{puts-more}
 use Rattle.spectro_notation.proofs.price.put_next.Goals as goal
 

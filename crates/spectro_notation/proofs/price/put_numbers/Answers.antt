@@ -1,13 +1,13 @@
-use Rattle.std.proofs.Common.{◌≡◌, ◌∙◌, ◌++◌, ◌-◌, take, drop, length, map, sym, ap, subst, arith, append_assoc}
-use Rattle.std.specs.Fmt.{decimal}
-use Rattle.std.specs.List.{flat_map, join_with_byte}
+use Rattle.std.proofs.Common.{◌≡◌, ◌∙◌, ◌++◌, ◌-◌, take, drop, length, sym, ap, subst, arith, append_assoc}
+use Rattle.std.specs.List.{flat_map}
 use Rattle.std.proofs.lemmas.List.{take_all}
 use Rattle.std.proofs.lemmas.Result.{err_from_is_err_and}
 use Rattle.spectro_io.specs.Batches.{IsPending}
 use Rattle.spectro_io.specs.Bytes.{AppendsPart}
 use Rattle.spectro_io.proofs.Batches.{pending-more, pending-part, puts-stopped}
+use Rattle.spectro_io.proofs.Rows.{row-more, row-stopped}
 use Rattle.spectro_notation.specs.Prices.{next_text}
-use Rattle.spectro_notation.proofs.Rows.{row-parts, row-more, row-stopped}
+use Rattle.spectro_notation.proofs.Rows.{row-parts}
 use Rattle.spectro_notation.proofs.price.put_numbers.Goals as goal
 
 -- the sink failed at one of the other numbers
@@ -17,14 +17,14 @@ returns-in_err-put_next-clause-bytes g c =
     let others = take (length c.args.numbers.now - 1) (drop 1 c.args.numbers.now) in
     let first = rw c.from.ensures at c.in_ok-put_number.ensures.bytes in
     let part : AppendsPart (g.O.Sink.written c.put_number.new.out) (g.O.Sink.written c.put_next.new.out) (c.put_number.new.self ++ flat_map next_text others) =
-    puts-stopped _ _ _ _ _ _ _ _ (row-stopped c.put_number.new.self others c.loop-number.number-index (omega arith)) c.loop-number.invariant.bytes c.in_err-put_next.ensures.bytes in
+    puts-stopped _ _ _ _ _ _ _ _ (row-stopped next_text c.put_number.new.self others c.loop-number.number-index 0 (omega arith)) c.loop-number.invariant.bytes c.in_err-put_next.ensures.bytes in
     let whole = append_assoc c.args.batch.now _ (flat_map next_text others) ∙ ap (λ text. c.args.batch.now ++ text) (sym (row-parts c.args.numbers.now c.in-len1-up.len_at_least)) in
     rw p.1 (subst (AppendsPart _ _) whole (pending-part _ _ _ _ _ _ first part))
 
 -- one number more is out or held
 pub loop-number-preserved : goal.loop-number-preserved
 loop-number-preserved g c = record {
-  bytes = subst (IsPending _ _ _) (row-more c.put_number.new.self (take (length c.args.numbers.now - 1) (drop 1 c.args.numbers.now)) c.loop-number.number-index (omega arith)) (pending-more _ _ _ _ _ _ _ c.loop-number.invariant.bytes c.in_ok-put_next.ensures.bytes);
+  bytes = subst (IsPending _ _ _) (row-more next_text c.put_number.new.self (take (length c.args.numbers.now - 1) (drop 1 c.args.numbers.now)) c.loop-number.number-index 0 (omega arith)) (pending-more _ _ _ _ _ _ _ c.loop-number.invariant.bytes c.in_ok-put_next.ensures.bytes);
   later = omega (arith, c.in_ok-put_next.ensures.cause.later, c.loop-number.invariant.later);
 }
 
