@@ -4,11 +4,10 @@ use Rattle.std.proofs.lemmas.List.{get_or-map, length-map}
 use Rattle.spectro_spec.specs.Formula.{all, no_clauses}
 use Rattle.spectro_spec.specs.Pricing.{price}
 use Rattle.spectro_spec.specs.Weighing.{Weighing}
-use Rattle.spectro_energy.specs.Energy.{price_of}
+use Rattle.spectro_energy.specs.Energy.{price_of, prices_of}
 use Rattle.spectro_energy.specs.declared.energy.Energy.{Energy}
 use Rattle.spectro_hml.specs.Sheets.{SheetNode, formulas_of, unfolded}
 use Rattle.spectro_hml.proofs.Unfoldings.{length-formulas_of}
-use Rattle.spectro_price.specs.NodePrices.{prices_of}
 
 -- there is a price for each node
 pub prices-within : (found : List Energy) (nodes : List SheetNode) (weighing : Weighing) (node : ℕ) → prices_of found ≡ map (price weighing) (formulas_of nodes) → node < length nodes → node < length found

@@ -9,10 +9,10 @@ use Rattle.std.proofs.lemmas.List.Sums.{prefix_len-le-length}
 use Rattle.spectro_spec.specs.Price.{Price, IsAtMost, ComesBefore, parts}
 use Rattle.spectro_spec.specs.LeastPrices.{Covers, Rises, AreApart}
 use Rattle.spectro_game.specs.MinimalElements.{is_at_most, precedes, some_covers, not_above, placed_price, inserted}
-use Rattle.spectro_energy.specs.Energy.{price_of}
+use Rattle.spectro_energy.specs.Energy.{price_of, prices_of}
 use Rattle.spectro_energy.specs.declared.energy.Energy.{Energy}
 use Rattle.spectro_theory.proofs.MinimalElements.{by_test, is_at_most-Decides, precedes-Decides, some_covers-Decides, inserted-rises, inserted-apart}
-use Rattle.spectro_antichain.specs.Prices.{prices_of, comes_first}
+use Rattle.spectro_antichain.specs.Prices.{comes_first}
 
 -- an answer that tells the order is the test of it
 pub at_most_by : (answer : Bool) (e f : Price) → (IsTrue answer ↔ IsAtMost e f) → answer ≡ is_at_most e f

@@ -6,9 +6,9 @@ ghost use Rattle.spectro_spec.specs.LeastPrices.{Covers, Rises, AreApart};
 ghost use Rattle.spectro_game.specs.MinimalElements.{not_above, inserted, minimal_elements};
 ghost use Rattle.spectro_game.specs.Sup.{sup};
 ghost use Rattle.spectro_game.specs.Update.{inverse};
-ghost use Rattle.spectro_energy.specs.Energy.{price_of};
+ghost use Rattle.spectro_energy.specs.Energy.{price_of, prices_of};
 ghost use Rattle.spectro_energy.specs.Updates.{update_of, CanRaise};
-ghost use Rattle.spectro_antichain.specs.Prices.{prices_of, comes_first};
+ghost use Rattle.spectro_antichain.specs.Prices.{comes_first};
 
 use spectro_energy::{Energy, Update};
 use spectro_theory::minimal_elements_grow;
@@ -26,7 +26,7 @@ impl Model for Antichain {
     ghost use Rattle.std.specs.Prelude.{List};
     ghost use Rattle.spectro_spec.specs.Price.{Price};
     ghost use Rattle.spectro_spec.specs.LeastPrices.{Rises, AreApart};
-    ghost use Rattle.spectro_antichain.specs.Prices.{prices_of};
+    ghost use Rattle.spectro_energy.specs.Energy.{prices_of};
 
     ghost Value = { List Price };
 

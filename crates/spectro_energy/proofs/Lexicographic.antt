@@ -6,7 +6,7 @@ use Rattle.std.specs.Cmp.Lexicographic.{slice_cmp}
 use Rattle.std.specs.Ordering.{nat_cmp, ordering_then, MatchOrdering}
 use Rattle.std.specs.declared.cmp.Ordering.{Ordering}
 use Rattle.std.specs.declared.cmp.Ordering.TheVariants.{Less, Equal, Greater}
-use Rattle.spectro_spec.specs.Price.{Price, parts, IsFirstSmaller}
+use Rattle.spectro_spec.specs.Price.{parts, IsFirstSmaller}
 use Rattle.spectro_spec.proofs.FirstSmaller.{IsFirstSmaller-irrefl, IsFirstSmaller-trans}
 use Rattle.spectro_energy.specs.Energy.{price_of, IsLexicographic}
 

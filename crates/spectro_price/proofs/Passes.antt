@@ -3,10 +3,10 @@ use Rattle.std.proofs.Common.{◌≡◌, ◌∙◌, ℕ, ◌+◌, ◌<◌, ◌�
 use Rattle.std.proofs.lemmas.List.{get_or-map, map_more}
 use Rattle.spectro_spec.specs.Price.{Price, IsAtMost}
 use Rattle.spectro_spec.specs.Pricing.{PricedClause, plus_price, minus_price, price_of_observation, price_of_conjunction}
-use Rattle.spectro_energy.specs.Energy.{price_of}
+use Rattle.spectro_energy.specs.Energy.{price_of, prices_of}
 use Rattle.spectro_energy.specs.declared.energy.Energy.{Energy}
 use Rattle.spectro_hml.specs.declared.node.Clause.{Clause}
-use Rattle.spectro_price.specs.NodePrices.{prices_of, price_at, priced_clause, limit, AreLow}
+use Rattle.spectro_price.specs.NodePrices.{price_at, priced_clause, limit, AreLow}
 use Rattle.spectro_price.proofs.Conjunctions.{plus-low, minus-low, none-low}
 
 -- the energy that is read at a place has the price of that node

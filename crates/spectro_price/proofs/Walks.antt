@@ -1,14 +1,14 @@
 -- A walk over the nodes of a sheet, lowest first.
-use Rattle.std.proofs.Common.{◌≡◌, ◌∙◌, ℕ, zero, suc, ◌+◌, ◌≤◌, List, [], ◌∷◌, ◌++◌, length, map, take, Some, slice_get, refl, sym, ap, arith}
-use Rattle.std.proofs.lemmas.List.{length_push, map_push, take_more, take_all}
+use Rattle.std.proofs.Common.{◌≡◌, ◌∙◌, ℕ, zero, suc, ◌+◌, List, [], ◌∷◌, ◌++◌, length, map, take, Some, slice_get, sym, ap, arith}
+use Rattle.std.proofs.lemmas.List.{length_push, map_push, take_more}
 use Rattle.std.proofs.lemmas.Option.{slice_get_within, get_or_from_slice_get}
 use Rattle.spectro_spec.specs.Price.{Price, IsAtMost}
 use Rattle.spectro_spec.specs.Pricing.{price}
 use Rattle.spectro_spec.specs.Weighing.{Weighing}
-use Rattle.spectro_energy.specs.Energy.{price_of}
+use Rattle.spectro_energy.specs.Energy.{price_of, prices_of}
 use Rattle.spectro_energy.specs.declared.energy.Energy.{Energy}
 use Rattle.spectro_hml.specs.Sheets.{SheetNode, formulas_of}
-use Rattle.spectro_price.specs.NodePrices.{prices_of, price_of_node, limit, AreLow}
+use Rattle.spectro_price.specs.NodePrices.{price_of_node, limit, AreLow}
 use Rattle.spectro_price.proofs.NodePrices.{prices-push}
 
 -- these are the prices of the first k nodes
@@ -22,10 +22,6 @@ AreLow-push n m [] e is low here zero = here
 AreLow-push n m [] e is low here (suc k) = omega arith
 AreLow-push n m (f ∷ prices) e is low here zero = let first = low 0 in omega arith
 AreLow-push n m (f ∷ prices) e is low here (suc k) = AreLow-push n m prices e is (λ j. low (suc j)) here k
-
-pub ArePrices-none : (weighing : Weighing) (nodes : List SheetNode) (found : List Energy) → found ≡ [] → ArePrices weighing nodes 0 found
-ArePrices-none weighing nodes found is =
-    rw is (record { count = refl; costs = refl; low = λ k. omega arith })
 
 pub ArePrices-more : (weighing : Weighing) (nodes : List SheetNode) (k : ℕ) (found more : List Energy) (node : SheetNode) (e : Energy) → ArePrices weighing nodes k found
     → slice_get nodes k ≡ Some node → more ≡ found ++ e ∷ [] → price_of e.parts ≡ price_of_node weighing (prices_of found) node → IsAtMost (price_of e.parts) (limit (length found + 2))
@@ -48,6 +44,3 @@ ArePrices-more weighing nodes k found more node e so_far at grown costs low = re
 
     ends : length found + 2 ≡ k + 1 + 1
     ends = omega (arith, so_far.count)
-
-pub ArePrices-all : (weighing : Weighing) (nodes : List SheetNode) (k : ℕ) (found : List Energy) → ArePrices weighing nodes k found → length nodes ≤ k → prices_of found ≡ map (price weighing) (formulas_of nodes)
-ArePrices-all weighing nodes k found so_far past = so_far.costs ∙ ap (λ nodes. map (price weighing) (formulas_of nodes)) (take_all k nodes past)

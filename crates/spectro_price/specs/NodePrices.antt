@@ -3,14 +3,8 @@ use Rattle.std.specs.Prelude.{ℕ, ◌*◌, List, [], map, slice_index_or, if◌
 use Rattle.spectro_spec.specs.Price.{Price, IsAtMost}
 use Rattle.spectro_spec.specs.Pricing.{PricedClause, plus_price, minus_price, price_of_observation, price_of_conjunction}
 use Rattle.spectro_spec.specs.Weighing.{Weighing, weight_of}
-use Rattle.spectro_energy.specs.Energy.{price_of}
-use Rattle.spectro_energy.specs.declared.energy.Energy.{Energy}
 use Rattle.spectro_hml.specs.Sheets.{SheetNode, see_node, all_node}
 use Rattle.spectro_hml.specs.declared.node.Clause.{Clause}
-
--- the prices of the energies, in order
-abbrev pub prices_of : List Energy → List Price
-prices_of = map (λ energy. price_of energy.parts)
 
 -- the price of the node of this number
 abbrev pub price_at : List Price → ℕ → Price

@@ -1,10 +1,10 @@
 ghost use Rattle.std.specs.Prelude.{◌≡◌, ◌+◌, ◌≤◌, ◌<◌, All, IfOk, length, map};
 ghost use Rattle.spectro_spec.specs.Price.{IsAtMost};
 ghost use Rattle.spectro_spec.specs.Pricing.{price, price_of_conjunction};
-ghost use Rattle.spectro_energy.specs.Energy.{price_of};
+ghost use Rattle.spectro_energy.specs.Energy.{price_of, prices_of};
 ghost use Rattle.spectro_hml.specs.Nodes.{node_shown};
 ghost use Rattle.spectro_hml.specs.Sheets.{IsNodeAt, formulas_of};
-ghost use Rattle.spectro_price.specs.NodePrices.{AreLow, limit, prices_of, priced_clause, price_of_node};
+ghost use Rattle.spectro_price.specs.NodePrices.{AreLow, limit, priced_clause, price_of_node};
 
 use spectro_energy::{Energy, Update};
 use spectro_hml::{Clause, Node, Sheet};

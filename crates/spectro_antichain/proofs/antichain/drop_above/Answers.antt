@@ -1,8 +1,7 @@
 use Rattle.std.proofs.Common.{rules, tests, ◌∙◌, ap, not}
 use Rattle.std.proofs.lemmas.Fn.{filter_same}
 use Rattle.spectro_game.specs.MinimalElements.{is_at_most}
-use Rattle.spectro_energy.specs.Energy.{price_of}
-use Rattle.spectro_antichain.specs.Prices.{prices_of}
+use Rattle.spectro_energy.specs.Energy.{price_of, prices_of}
 use Rattle.spectro_antichain.proofs.Prices.{above_by, not_above-prices_of}
 use Rattle.spectro_antichain.proofs.antichain.drop_above.Goals as goal
 

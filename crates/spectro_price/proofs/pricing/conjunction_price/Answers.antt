@@ -4,10 +4,10 @@ use Rattle.spectro_spec.specs.Price.{IsAtMost}
 use Rattle.spectro_spec.specs.Pricing.{price_of_conjunction}
 use Rattle.spectro_game.specs.Sup.{sup}
 use Rattle.spectro_game.specs.Update.{inverse, conjoin}
-use Rattle.spectro_energy.specs.Energy.{price_of}
+use Rattle.spectro_energy.specs.Energy.{price_of, prices_of}
 use Rattle.spectro_energy.specs.declared.energy.Energy.{Energy}
 use Rattle.spectro_hml.specs.declared.node.Clause.{Clause}
-use Rattle.spectro_price.specs.NodePrices.{limit, prices_of, priced_clause}
+use Rattle.spectro_price.specs.NodePrices.{limit, priced_clause}
 use Rattle.spectro_price.proofs.Conjunctions.{IsCost-plus, IsCost-minus, price_of_conjunction-from_cost}
 use Rattle.spectro_price.proofs.Passes.{read-low, conjunction-low, passed, passed-plus, passed-minus}
 use Rattle.spectro_price.proofs.pricing.conjunction_price.Goals as goal

@@ -2,11 +2,11 @@ use Rattle.std.proofs.Common.{◌∙◌, ◌+◌, length, [], ap, sym, subst, ge
 use Rattle.spectro_spec.specs.Price.{IsAtMost}
 use Rattle.spectro_spec.specs.Pricing.{price_of_observation}
 use Rattle.spectro_spec.specs.Weighing.{weight_of}
-use Rattle.spectro_energy.specs.Energy.{price_of}
+use Rattle.spectro_energy.specs.Energy.{price_of, prices_of}
 use Rattle.spectro_energy.specs.declared.energy.Energy.{Energy}
 use Rattle.spectro_hml.specs.Nodes.{node_shown}
 use Rattle.spectro_hml.specs.Sheets.{IsNodeAt}
-use Rattle.spectro_price.specs.NodePrices.{limit, prices_of, price_of_node}
+use Rattle.spectro_price.specs.NodePrices.{limit, price_of_node}
 use Rattle.spectro_price.proofs.Passes.{price_at-prices_of, read-low, observation-low}
 use Rattle.spectro_price.proofs.pricing.node_price.Goals as goal
 

@@ -1,8 +1,8 @@
 use Rattle.std.proofs.Common.{◌∙◌, ◌+◌, length, ap, subst}
 use Rattle.spectro_spec.specs.Price.{IsAtMost}
-use Rattle.spectro_energy.specs.Energy.{price_of}
+use Rattle.spectro_energy.specs.Energy.{price_of, prices_of}
 use Rattle.spectro_hml.specs.Nodes.{node_shown}
-use Rattle.spectro_price.specs.NodePrices.{limit, prices_of, price_of_node}
+use Rattle.spectro_price.specs.NodePrices.{limit, price_of_node}
 use Rattle.spectro_price.proofs.Walks.{ArePrices-more}
 use Rattle.spectro_price.proofs.pricing.prices.Goals as goal
 

@@ -3,8 +3,8 @@ use Rattle.std.specs.List.{insert, position_or_len}
 use Rattle.std.proofs.lemmas.Bool.{true≢false}
 use Rattle.spectro_spec.specs.LeastPrices.{Rises, AreApart}
 use Rattle.spectro_game.specs.MinimalElements.{inserted, not_above}
-use Rattle.spectro_energy.specs.Energy.{price_of}
-use Rattle.spectro_antichain.specs.Prices.{prices_of, comes_first}
+use Rattle.spectro_energy.specs.Energy.{price_of, prices_of}
+use Rattle.spectro_antichain.specs.Prices.{comes_first}
 use Rattle.spectro_antichain.proofs.Prices.{inserted-covered, inserted-prices_of, inserted-antichain}
 use Rattle.spectro_antichain.proofs.antichain.Antichain.insert.Goals as goal
 
