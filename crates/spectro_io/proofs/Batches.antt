@@ -1,15 +1,11 @@
 -- What batches have written and hold, call after call.
-use Rattle.std.proofs.Common.{◌≡◌, ◌∙◌, ℕ, List, [], ◌++◌, refl, sym, ap, subst, append-nil, append_assoc}
+use Rattle.std.proofs.Common.{◌≡◌, ◌∙◌, ℕ, List, [], ◌++◌, sym, ap, subst, append-nil, append_assoc}
 use Rattle.std.specs.Prelude.{Option, Result, Ok, Err}
 use Rattle.std.specs.Io.KnownBytes.{Appends}
-use Rattle.std.proofs.KnownBytes.{Appends-trans, Appends-nil}
+use Rattle.std.proofs.KnownBytes.{Appends-trans}
 use Rattle.spectro_io.specs.Bytes.{AppendsPart, WritesWhole}
 use Rattle.spectro_io.specs.Batches.{IsPending, Puts}
 use Rattle.spectro_io.proofs.Written.{AppendsPart-front, AppendsPart-back}
-
--- nothing was written yet
-pub pending-none : (now : Option (List ℕ)) (held : List ℕ) → IsPending now now held held
-pending-none now held = record { gone = []; written = Appends-nil now; whole = refl }
 
 -- the pieces behind those that were pending are pending too
 pub pending-more : (start mid now : Option (List ℕ)) (held all more_held more : List ℕ) → IsPending start mid held all → IsPending mid now more_held (held ++ more) → IsPending start now more_held (all ++ more)

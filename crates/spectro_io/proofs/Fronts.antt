@@ -1,5 +1,5 @@
 -- What two readings in a row gave, and what words at the front of a text say of it.
-use Rattle.std.proofs.Common.{◌≡◌, ◌∙◌, ℕ, Bool, true, false, cond, List, ◌++◌, take, drop, length, refl, sym, ap, take-append-drop}
+use Rattle.std.proofs.Common.{◌≡◌, ◌∙◌, ℕ, true, List, ◌++◌, take, drop, length, refl, sym, ap, take-append-drop}
 use Rattle.std.specs.Prelude.{Option, None, Some}
 use Rattle.std.specs.Str.{bytes_eq}
 use Rattle.std.proofs.Math.Seq.{take-append_seam, drop-append_seam}
@@ -11,11 +11,6 @@ use Rattle.spectro_io.specs.Fronts.{◌>>=◌, after}
 pub bind_some : {A B : Type 0} (first : Option A) (second : A → Option B) (y : B) → (first >>= second) ≡ Some y → (x : A) × (first ≡ Some x) × (second x ≡ Some y)
 bind_some None second y e = cc
 bind_some (Some x) second y e = (x, refl, e)
-
--- what is not the other case of a choice
-pub cond_else : {A : Type 0} (test : Bool) (x y : Option A) (z : A) → x ≡ None → cond test x y ≡ Some z → (test ≡ false) × (y ≡ Some z)
-cond_else true x y z none e = cc
-cond_else false x y z none e = (refl, e)
 
 -- the words at the front, and what is left
 pub after_complete : (words rest : List ℕ) → after words (words ++ rest) ≡ Some rest

@@ -1,5 +1,5 @@
 -- The entries of a shelf in memory, and what is left of the open one.
-use Rattle.std.proofs.Common.{◌≡◌, ◌≢◌, ◌∙◌, ℕ, suc, zero, ◌+◌, ◌≤◌, Bool, true, false, cond, List, [], ◌∷◌, drop, length, sym, arith, refl, ap, length-drop}
+use Rattle.std.proofs.Common.{◌≡◌, ◌≢◌, ◌∙◌, ℕ, suc, zero, ◌+◌, Bool, true, false, cond, List, [], ◌∷◌, drop, sym, refl, ap}
 use Rattle.std.specs.Prelude.{Option, None, Some, IfSome, is_some, String, Vec, string_bytes, slice_get}
 use Rattle.std.specs.declared.alloc.Global.{Global}
 use Rattle.std.specs.Map.{lookup, values_of}
@@ -13,7 +13,7 @@ use Rattle.std.proofs.lemmas.Slice.Eq.{bytes_eq-Decides}
 use Rattle.indexmap.specs.IndexMap.{insert_entry}
 use Rattle.spectro_io.specs.Memory.{text_of}
 use Rattle.spectro_io.specs.Shelves.{Opens}
-use Rattle.spectro_io.specs.Entries.{Entry, named, text_at, left_of, IsOpenAt}
+use Rattle.spectro_io.specs.Entries.{Entry, named, text_at, left_of}
 
 drop-nil : (count : ℕ) → drop {A = ℕ} count [] ≡ []
 drop-nil zero = refl
@@ -23,10 +23,6 @@ drop-nil (suc count) = refl
 pub left_of-more : (entries : List Entry) (current : Option ℕ) (at count : ℕ) → left_of entries current (at + count) ≡ drop count (left_of entries current at)
 left_of-more entries None at count = sym (drop-nil count)
 left_of-more entries (Some place) at count = sym (drop-drop count at (text_at entries place))
-
-pub IsOpenAt-more : (entries : List Entry) (current : Option ℕ) (at count : ℕ) → IsOpenAt entries current at → count ≤ length (left_of entries current at) → IsOpenAt entries current (at + count)
-IsOpenAt-more entries None at count inside within = tt
-IsOpenAt-more entries (Some place) at count inside within = (inside.0, let room = inside.1 in omega (arith, length-drop at (text_at entries place)))
 
 -- the text under a name is that of the entry which is found under it
 pub text_of-named : (entries : List Entry) (name : List ℕ) → text_of (named entries) name ≡ option_map (λ text. text.items) (lookup (λ key. bytes_eq name (string_bytes key)) entries)

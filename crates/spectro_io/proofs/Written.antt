@@ -1,9 +1,9 @@
 -- What a loop has written of its bytes.
-use Rattle.std.proofs.Common.{◌≡◌, ◌∙◌, ℕ, List, [], ◌++◌, take, drop, length, sym, refl, ap, subst, append-nil, arith, length-append, ◌<◌, ◌+◌, ◌-◌, ◌≤◌}
+use Rattle.std.proofs.Common.{◌≡◌, ◌∙◌, ℕ, List, ◌++◌, take, drop, length, sym, ap, subst, arith, length-append, ◌<◌, ◌+◌, ◌-◌, ◌≤◌}
 use Rattle.std.proofs.lemmas.Grind.{common_steps}
 use Rattle.std.specs.Prelude.{Option}
 use Rattle.std.specs.Io.KnownBytes.{Appends, Keeps}
-use Rattle.std.proofs.KnownBytes.{Appends-trans, Appends-nil, Appends-kept}
+use Rattle.std.proofs.KnownBytes.{Appends-trans, Appends-kept}
 use Rattle.std.proofs.Math.Seq.{take-append_seam, take-append-add}
 use Rattle.std.proofs.lemmas.List.{take-append-le}
 use Rattle.spectro_io.specs.Bytes.{AppendsPart}
@@ -13,9 +13,6 @@ pub record HasWritten (old new : Option (List ℕ)) (bytes rest : List ℕ) : Ty
   pub done : List ℕ
   pub whole : bytes ≡ done ++ rest
   pub written : Appends old new done
-
-pub written-none : (now : Option (List ℕ)) (bytes : List ℕ) → HasWritten now now bytes bytes
-written-none now bytes = record { done = []; whole = refl; written = Appends-nil now }
 
 -- the next piece was written, and the slice from there on is left
 pub written-more : (old mid new : Option (List ℕ)) (bytes rest : List ℕ) (count : ℕ) → HasWritten old mid bytes rest → Appends mid new (take count rest) → HasWritten old new bytes (take (length rest - count) (drop count rest))
@@ -31,9 +28,6 @@ written-part old mid new bytes rest so_far some kept =
     let front : take (length so_far.done) bytes ≡ so_far.done = ap (take (length so_far.done)) so_far.whole ∙ take-append_seam so_far.done rest in
     let lengths : length bytes ≡ length so_far.done + length rest = ap length so_far.whole ∙ length-append so_far.done rest in
     (length so_far.done, omega arith, subst (Appends old new) (sym front) (Appends-kept old mid new so_far.done so_far.written kept))
-
-pub written-all : (old new : Option (List ℕ)) (bytes : List ℕ) → HasWritten old new bytes [] → Appends old new bytes
-written-all old new bytes so_far = subst (Appends old new) (sym (so_far.whole ∙ append-nil so_far.done)) so_far.written
 
 -- for a writer that writes in several calls: a proper prefix of the front is one of the whole
 pub AppendsPart-front : (old new : Option (List ℕ)) (front back : List ℕ) → AppendsPart old new front → AppendsPart old new (front ++ back)
