@@ -194,15 +194,3 @@ no_label = tt
 
 pub labels_of-distinct : (steps : List Step) → IsDistinct bytes_eq (labels_of steps)
 labels_of-distinct steps = IsDistinct-insert_all [] (map (λ step. step.label) steps) no_label
-
--- labels of steps are the same exactly where their numbers are
-pub label_from_number : (steps : List Step) (label other : Label) (label_no number : ℕ) → position (bytes_eq label) (labels_of steps) ≡ Some label_no → slice_get (labels_of steps) number ≡ Some other → number ≡ label_no → other ≡ label
-label_from_number steps label other label_no number known at same =
-    let found = found_label (labels_of steps) label label_no known in
-    let here : slice_get (labels_of steps) label_no ≡ Some other = subst (λ place. slice_get (labels_of steps) place ≡ Some other) same at in
-    cc
-
-pub number_from_label : (steps : List Step) (label other : Label) (label_no number : ℕ) → position (bytes_eq label) (labels_of steps) ≡ Some label_no → slice_get (labels_of steps) number ≡ Some other → other ≡ label → number ≡ label_no
-number_from_label steps label other label_no number known at same =
-    let found = found_label (labels_of steps) label label_no known in
-    one_number (labels_of steps) label number label_no (labels_of-distinct steps) (at ∙ ap Some same) found
