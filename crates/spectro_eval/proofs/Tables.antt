@@ -149,9 +149,6 @@ rows_push system formulas formula words row rows last wide = record { long = lon
         let seam : drop (k * width) (words ++ row) ≡ row = ap (λ n. drop n (words ++ row)) (ap (λ n. n * width) (sym here) ∙ sym rows.long) ∙ drop-append_seam words row in
         rw (get_or_at formulas formula [] (all no_clauses) k here, seam) last
 
-pub rows_none : (system : System) → AreRows system (formulas_of []) []
-rows_none system = record { long = omega arith; truths = λ k within. absurd (omega arith) }
-
 pub rows_more : (system : System) (nodes : List SheetNode) (k : ℕ) (words row : List ℕ) → k < length nodes → AreRows system (formulas_of (take k nodes)) words → AreTruths system (unfolded (take (k + 1) nodes) k) (bits_of system.states row) → length row ≡ words_of system.states → AreRows system (formulas_of (take (k + 1) nodes)) (words ++ row)
 rows_more system nodes k words row within rows last wide =
     let node = get_or nodes k (all_node []) in
