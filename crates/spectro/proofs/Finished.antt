@@ -1,8 +1,7 @@
 -- The answer of a command from what was read, prepared and written.
-use Rattle.std.proofs.Common.{◌≡◌, ◌⊎◌, ℕ, List, [], take, sym, subst, inl, inr}
+use Rattle.std.proofs.Common.{◌≡◌, ℕ, List, [], take, sym, subst, inl, inr}
 use Rattle.std.specs.Prelude.{Option, None, Some, IfSome}
 use Rattle.std.proofs.KnownBytes.{Appends-nil, Keeps-refl}
-use Rattle.spectro_io.specs.Faults.{Rose}
 use Rattle.spectro_io.specs.Limits.{read_limit}
 use Rattle.spectro_io.specs.Shelves.{Texts}
 use Rattle.spectro.specs.declared.status.BadText as declared
@@ -58,12 +57,6 @@ pub stopped_refused : (Gives : Texts → Status → List ℕ → Type 0) (told :
     → OrMemory (λ status. (fault : declared.BadText) × (status ≡ BadText fault) × ((texts : Texts) → Gives texts status [])) status → IsStopped told Gives Lacks before now status
 stopped_refused Gives told Lacks before now status (inl memory) = no_memory memory
 stopped_refused Gives told Lacks before now status (inr is) = refused is.0 is.1 (for_told told is.2)
-
--- why a text could not be read, where this is the answer
-pub unread_cause : (Gives : Texts → Status → List ℕ → Type 0) (told : Option Texts) (Lacks : Type 0) (before now : ℕ) (status : Status) → IsStopped told Gives Lacks before now status → status ≡ ReadFault → Rose before now ⊎ Lacks
-unread_cause Gives told Lacks before now status (no_memory is) read = cc
-unread_cause Gives told Lacks before now status (unread is cause) read = cause
-unread_cause Gives told Lacks before now status (refused fault is given) read = cc
 
 -- a command that gives for a whole text what it gives for as much of it as is read
 module _

@@ -7,9 +7,9 @@ use Rattle.spectro_weights.specs.WeightTexts.{IsWeightText}
 use Rattle.spectro_weights.specs.Faults.{IsFirstFault}
 use Rattle.spectro_weights.proofs.LongTexts.{fault_of_read_front, read_front_no_text}
 use Rattle.spectro.specs.declared.status.Status.{Status}
-use Rattle.spectro.specs.Causes.{HasRead, IsUnread, LacksWeights, OrMemory}
+use Rattle.spectro.specs.Causes.{HasRead, LacksWeights, OrMemory}
 use Rattle.spectro.specs.Refusals.{RefusesWeighing}
-use Rattle.spectro.specs.Stops.{IsStopped, no_memory, unread, refused}
+use Rattle.spectro.specs.Stops.{IsStopped, no_memory, refused}
 use Rattle.spectro.specs.Weighted.{GivesWeighing, RefusesHeld, RefusesWeights}
 use Rattle.spectro.specs.Words.{Word}
 use Rattle.spectro.proofs.Finished.{told_map}
@@ -30,9 +30,3 @@ pub weighing_refused : (told : Option Texts) (name : Word) (bytes : List ℕ) (b
     → IsStopped told (λ texts status _. RefusesWeights texts (Some name) status) (LacksWeights told (Some name)) before now status
 weighing_refused told name bytes before now status held (inl memory) = no_memory memory
 weighing_refused told name bytes before now status held (inr is) = refused _ is.2 (told_map told (λ texts held. refusal_held texts name bytes status held is) held)
-
--- the text was not read
-pub weights_unread : (told : Option Texts) (name : Word) (before now : ℕ) (status : Status) → OrMemory (IsUnread told name before now) status
-    → IsStopped told (λ texts status _. RefusesWeights texts (Some name) status) (LacksWeights told (Some name)) before now status
-weights_unread told name before now status (inl memory) = no_memory memory
-weights_unread told name before now status (inr is) = unread is.0 is.1
