@@ -18,3 +18,4 @@ pub mod Writing
 pub mod WrittenNumbers
 pub mod WrittenLines
 pub mod RoundTrips
+pub mod KeptLimits

@@ -37,11 +37,11 @@ within_transition text source field target byte is within =
     let ended = Contains-append_right (40 ∷ is.first) (44 ∷ is.middle) byte (Contains-later 44 is.middle byte middle) in
     subst (λ text. Contains text byte) (sym is.whole) (Contains-append_left (((40 ∷ is.first) ++ (44 ∷ is.middle)) ++ (44 ∷ is.last)) (41 ∷ []) byte (Contains-append_left ((40 ∷ is.first) ++ (44 ∷ is.middle)) (44 ∷ is.last) byte ended))
 
-label-one_line : (text : List ℕ) (step : Step) → IsStepLine text step → (Contains text 10 → ⊥) → Contains step.label 10 → ⊥
+pub label-one_line : (text : List ℕ) (step : Step) → IsStepLine text step → (Contains text 10 → ⊥) → Contains step.label 10 → ⊥
 label-one_line text step is one_line within = one_line (within_transition text step.source is.0 step.target 10 is.1 (within_field is.0 step.label 10 is.2 within))
 
 -- ---- a label that is not new, or has a place left, keeps the labels few
-few_labels : (system : System) (step : Step) → length (labels_of system.steps) ≤ 65536 → (IsLabelTooMany system step → ⊥) → length (labels_of (system.steps ++ step ∷ [])) ≤ 65536
+pub few_labels : (system : System) (step : Step) → length (labels_of system.steps) ≤ 65536 → (IsLabelTooMany system step → ⊥) → length (labels_of (system.steps ++ step ∷ [])) ≤ 65536
 few_labels system step few none = by (list_any (λ other. bytes_eq step.label other.label) system.steps) refl
   where
     by : (known : Bool) → list_any (λ other. bytes_eq step.label other.label) system.steps ≡ known → length (labels_of (system.steps ++ step ∷ [])) ≤ 65536

@@ -121,13 +121,17 @@ pub label_of_sound : (field label : List ℕ) → label_of field ≡ Some label 
 unfolding label_of
 label_of_sound field label e = label_of_either field label (is_bare field) refl e
 
+-- the label of a field of text is text
+pub label_utf8 : (field label : List ℕ) → IsLabelField field label → IsUtf8 field → IsUtf8 label
+label_utf8 field label (IsLabelField.quoted whole) utf8 = utf8_before label 34 [] (omega arith) (utf8_behind [] 34 (label ++ 34 ∷ []) (omega arith) (subst IsUtf8 whole utf8))
+label_utf8 field label (IsLabelField.bare same some none) utf8 = subst IsUtf8 (sym same) utf8
+
 pub label_of_complete : (field label : List ℕ) → IsLabelField field label → IsUtf8 field → label_of field ≡ Some label
 unfolding label_of
 label_of_complete field label (IsLabelField.quoted whole) utf8 =
     let rest : after (34 ∷ []) field ≡ Some (label ++ 34 ∷ []) = ap (after (34 ∷ [])) whole in
-    let inner : IsUtf8 label = utf8_before label 34 [] (omega arith) (utf8_behind [] 34 (label ++ 34 ∷ []) (omega arith) (subst IsUtf8 whole utf8)) in
     let bare : is_bare field ≡ false = ap is_bare whole ∙ and_right (nat_lt 0 (length (34 ∷ label ++ 34 ∷ []))) false refl in
-    let is : is_utf8 label ≡ true = is_utf8-from_IsUtf8 label inner in
+    let is : is_utf8 label ≡ true = is_utf8-from_IsUtf8 label (label_utf8 field label (IsLabelField.quoted whole) utf8) in
     rw (bare, rest, before_last_complete 34 label, is) refl
 label_of_complete field label (IsLabelField.bare same some none) utf8 =
     let long : 0 < length field = elim (cases_lt 0 (length field)) [ inl p ↦ p | inr p ↦ absurd (some (nil_from_length field (omega arith))) ] in

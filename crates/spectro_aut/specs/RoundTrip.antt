@@ -1,5 +1,5 @@
 -- A system that is written is read back.
-use Rattle.std.specs.Prelude.{◌≤◌, length, All}
+use Rattle.std.specs.Prelude.{ℕ, ◌≤◌, List, length, All}
 use Rattle.std.specs.Str.{IsUtf8}
 use Rattle.spectro_spec.specs.System.{System, IsWhole}
 use Rattle.spectro_lts.specs.Labels.{labels_of, IsLabel}
@@ -18,3 +18,7 @@ pub record KeepsLimits (system : System) : Type 0 where
 -- what is written of a system that keeps the limits is a text of it, unless it is too long
 abbrev pub WrittenTextsAreRead : Type 0
 WrittenTextsAreRead = (system : System) → KeepsLimits system → length (text_of system) ≤ 67108864 → IsText (text_of system) system
+
+-- the system of a text keeps the limits
+abbrev pub TextsKeepTheLimits : Type 0
+TextsKeepTheLimits = (text : List ℕ) (system : System) → IsText text system → KeepsLimits system

@@ -6,7 +6,7 @@ ghost use Rattle.spectro_aut.specs.Laws.{
   TextsAreShort,
   TextsHaveNoFault,
 };
-ghost use Rattle.spectro_aut.specs.RoundTrip.{WrittenTextsAreRead};
+ghost use Rattle.spectro_aut.specs.RoundTrip.{TextsKeepTheLimits, WrittenTextsAreRead};
 
 /// A text is of at most one system.
 pub fn systems_are_one()
@@ -41,4 +41,9 @@ pub fn long_fronts_are_no_texts()
 /// What is written of a system is a text of it, where the limits of a text hold.
 pub fn written_texts_are_read()
     ensures { WrittenTextsAreRead }
+{}
+
+/// The system of a text keeps the limits of a text.
+pub fn texts_keep_the_limits()
+    ensures { TextsKeepTheLimits }
 {}
