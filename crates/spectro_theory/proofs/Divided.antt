@@ -1,5 +1,8 @@
 -- Sets that are divided into a left and a right part.
-use Rattle.std.proofs.Common.{ℕ, ◌⊎◌, inl, inr, List, [], ◌∷◌, subst, Contains}
+use Rattle.std.proofs.Common.{ℕ, zero, suc, ◌⊎◌, inl, inr, List, [], ◌∷◌, subst, arith, All, Contains}
+use Rattle.std.specs.List.{AllPairs}
+use Rattle.std.proofs.lemmas.List.Elements.{All-cons}
+use Rattle.std.proofs.lemmas.List.Kept.{AllPairs-cons}
 use Rattle.spectro_spec.proofs.Members.{Contains-later, Contains-cases, Contains-none}
 use Rattle.spectro_game.specs.Divisions.{IsDivided, nothing, to_left, to_right}
 use Rattle.spectro_spec.proofs.Membership.{Contains-first_is}
@@ -31,6 +34,19 @@ Contains-right (to_right {q = r} {qs = qs} {right = right} divided) q member = e
   | inr h ↦ Contains-later r qs q (Contains-right divided q h)
 ]
 Contains-right (to_left {q = r} {qs = qs} divided) q member = Contains-later r qs q (Contains-right divided q member)
+
+-- what holds of a set holds of its left part
+pub All-left : {qs left right : List ℕ} (P : ℕ → Type 0) → IsDivided qs left right → All P qs → All P left
+All-left P nothing each = each
+All-left P (to_left {q = q} {left = left} divided) each = All-cons P q left (each zero q (omega arith)) (All-left P divided (λ k d within. each (suc k) d (omega arith)))
+All-left P (to_right divided) each = All-left P divided (λ k d within. each (suc k) d (omega arith))
+
+pub AllPairs-left : {qs left right : List ℕ} (R : ℕ → ℕ → Type 0) → IsDivided qs left right → AllPairs R qs → AllPairs R left
+AllPairs-left R nothing each = each
+AllPairs-left R (to_left {q = q} {left = left} divided) each =
+    AllPairs-cons R q left (All-left (R q) divided (λ k d within. each zero (suc k) d (omega arith) (omega arith)))
+    (AllPairs-left R divided (λ i j d below within. each (suc i) (suc j) d (omega arith) (omega arith)))
+AllPairs-left R (to_right divided) each = AllPairs-left R divided (λ i j d below within. each (suc i) (suc j) d (omega arith) (omega arith))
 
 -- each member of a divided set is in one of the parts
 pub Contains-divided_cases : {qs left right : List ℕ} → IsDivided qs left right → (q : ℕ) → Contains qs q → Contains left q ⊎ Contains right q

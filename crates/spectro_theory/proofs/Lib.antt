@@ -25,6 +25,7 @@ pub mod Rounds
 pub mod Bounds
 pub mod Solved
 pub mod Places
+pub mod Ranges
 pub mod ReachedLists
 pub mod Growing
 pub mod PutLast
@@ -32,6 +33,7 @@ pub mod Expanding
 pub mod Existence
 pub mod Sizes
 pub mod Masks
+pub mod FollowerPlaces
 pub mod RowsOfGenerations
 pub mod ReachedPairs
 pub mod Universe

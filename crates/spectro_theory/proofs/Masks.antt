@@ -1,6 +1,6 @@
 -- The order of divisions is that of masks: the division at place m has on its left the members whose bit in m is set.
 -- Bit i stands for the member at place i. The first member changes sides with each next mask, the others go by half the mask.
-use Rattle.std.proofs.Common.{ℕ, zero, suc, ◌*◌, ◌/◌, ◌%◌, ◌^◌, ◌<◌, ◌≡◌, ◌≢◌, ◌⊎◌, inl, inr, List, [], ◌∷◌, length, flat_map, refl, sym, ap, subst, ◌∙◌, Contains, arith, Bool, true, false, eqb, Some}
+use Rattle.std.proofs.Common.{ℕ, zero, suc, ◌*◌, ◌/◌, ◌%◌, ◌^◌, ◌<◌, ◌≡◌, ◌≢◌, ◌⊎◌, inl, inr, List, [], ◌∷◌, ◌++◌, length, flat_map, refl, sym, ap, subst, ◌∙◌, Contains, arith, Bool, true, false, cond, eqb, Some}
 use Rattle.std.specs.Prelude.{if◌then◌else◌, ◌↔◌}
 use Rattle.std.specs.Int.{bit_at}
 use Rattle.std.proofs.Math.Nat.{pow-suc, pow-succ', div-div-eq-div-mul}
@@ -41,7 +41,7 @@ both_ways-place q (x ∷ ds) (suc (suc m)) d is =
     let later : StandsAt ds (m / 2) d = subst (λ k. StandsAt (x ∷ ds) k d) half is in
     subst (λ b. StandsAt (flat_map (both_ways q) ds) m (with_member q (eqb b 1) d)) (sym bit) (both_ways-place q ds m d later)
 
-divisions-place : (qs : List ℕ) (m : ℕ) → m < 2 ^ length qs → StandsAt (divisions qs) m (division_at m qs)
+pub divisions-place : (qs : List ℕ) (m : ℕ) → m < 2 ^ length qs → StandsAt (divisions qs) m (division_at m qs)
 unfolding division_at
 divisions-place [] zero below = refl
 divisions-place [] (suc m) below = absurd (omega arith)
@@ -56,7 +56,7 @@ length-divisions [] = omega arith
 length-divisions (q ∷ qs) = omega (arith, length-both_ways q (divisions qs), length-divisions qs, pow-suc 2 (length qs))
 
 -- each mask makes a division, and each division is made by a mask
-division_at-Divides : (m : ℕ) (qs : List ℕ) → Divides qs (division_at m qs)
+pub division_at-Divides : (m : ℕ) (qs : List ℕ) → Divides qs (division_at m qs)
 unfolding division_at
 division_at-Divides m [] = nothing
 division_at-Divides m (q ∷ qs) = by_test (λ b. Divides (q ∷ qs) (with_member q b (division_at (m / 2) qs))) (eqb (m % 2) 1) (Decides-eqb (m % 2) 1)
@@ -133,3 +133,24 @@ division_at-IsByMask qs mask = record {
 
 pub divisions-AreByMask : (qs : List ℕ) → AreByMask qs (divisions qs)
 divisions-AreByMask qs = record { count = length-divisions qs; place = λ mask below. (division_at mask qs, divisions-place qs mask below, division_at-IsByMask qs mask) }
+
+-- ---- the left part member by member
+left-with_member : (q : ℕ) (left : Bool) (d e : Division) (more : List ℕ) → d.left ≡ e.left ++ more → (with_member q left d).left ≡ (with_member q left e).left ++ more
+left-with_member q true d e more is = ap (λ l. q ∷ l) is
+left-with_member q false d e more is = is
+
+left-alone : (q : ℕ) (left : Bool) → (with_member q left (record { left = []; right = [] })).left ≡ cond left (q ∷ []) []
+left-alone q true = refl
+left-alone q false = refl
+
+pub left-none : (m : ℕ) → (division_at m []).left ≡ []
+unfolding division_at
+left-none m = refl
+
+-- one member more is taken where its bit is set
+pub left-more : (m : ℕ) (qs : List ℕ) (q : ℕ) → (division_at m (qs ++ q ∷ [])).left ≡ (division_at m qs).left ++ cond (has_bit m (length qs)) (q ∷ []) []
+unfolding division_at
+left-more m [] q = left-alone q (eqb (m % 2) 1) ∙ ap (λ b. cond b (q ∷ []) []) (sym (has_bit-first m))
+left-more m (x ∷ qs) q =
+    left-with_member x (eqb (m % 2) 1) (division_at (m / 2) (qs ++ q ∷ [])) (division_at (m / 2) qs) (cond (has_bit m (suc (length qs))) (q ∷ []) [])
+    (left-more (m / 2) qs q ∙ ap (λ b. (division_at (m / 2) qs).left ++ cond b (q ∷ []) []) (has_bit-half m (length qs)))

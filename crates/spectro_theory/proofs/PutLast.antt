@@ -1,7 +1,8 @@
 -- Lists in which each of some members was put last unless it stood there.
-use Rattle.std.proofs.Common.{ℕ, zero, suc, ◌<◌, ◌≤◌, ◌≡◌, ◌⊎◌, inl, inr, List, [], ◌∷◌, ◌++◌, length, Some, refl, sym, ap, ◌∙◌, subst, arith, length-append, append_assoc, append-nil, Bool, true, false, cond, ◌||◌}
+use Rattle.std.proofs.Common.{ℕ, zero, suc, ◌<◌, ◌≤◌, ◌≡◌, ◌⊎◌, inl, inr, List, [], ◌∷◌, ◌++◌, length, Some, refl, sym, ap, ◌∙◌, subst, arith, length-append, append_assoc, append-nil, Bool, true, false, cond, ◌||◌, All}
 use Rattle.std.specs.List.{list_any}
 use Rattle.std.proofs.lemmas.Bool.{true≢false}
+use Rattle.std.proofs.lemmas.List.Elements.{All-push}
 use Rattle.spectro_game.specs.Reached.{StandsAt, StandsIn}
 use Rattle.spectro_theory.specs.Reaching.{StandOnce, with_all, with_last}
 use Rattle.spectro_theory.proofs.Places.{stands-below, stands-cases, stands-last, stands-left, stands-one}
@@ -19,6 +20,15 @@ with_last-known same xs y found = ap (λ b. cond b xs (xs ++ y ∷ [])) found
 pub with_last-new : {X : Type 0} (same : X → X → Bool) (xs : List X) (y : X) → list_any (same y) xs ≡ false → with_last same xs y ≡ xs ++ y ∷ []
 unfolding with_last
 with_last-new same xs y none = ap (λ b. cond b xs (xs ++ y ∷ [])) none
+
+-- what holds of each member and of y holds of each with y put last
+pub All-with_last : {X : Type 0} (P : X → Type 0) (same : X → X → Bool) (xs : List X) (y : X) → All P xs → P y → All P (with_last same xs y)
+unfolding with_last
+All-with_last P same xs y all such = go (list_any (same y) xs)
+  where
+    go : (b : Bool) → All P (cond b xs (xs ++ y ∷ []))
+    go true = all
+    go false = All-push P xs y all such
 
 pub with_all-append : {X : Type 0} (same : X → X → Bool) (xs ys zs : List X) → with_all same xs (ys ++ zs) ≡ with_all same (with_all same xs ys) zs
 unfolding with_all

@@ -11,6 +11,9 @@ use Rattle.spectro_theory.proofs.Places.{stands-one}
 pub size-append : SizesAddUp
 size-append front rest = sum_by-append weight front rest
 
+pub size-one : (x : Pair) → size (x ∷ []) ≡ weight x
+size-one x = omega (arith, sum_by-cons weight x [])
+
 pub size-front : FrontsAreNoLarger
 size-front front rest = omega (arith, size-append front rest)
 
