@@ -1,0 +1,14 @@
+pub mod Sets
+pub mod Interning
+pub mod KeptPairs
+pub mod RowLists
+pub mod Stamps
+pub mod Transposing
+pub mod FilledRows
+pub mod NamedRows
+pub mod ArenaRows
+pub mod ObservedSteps
+pub mod PredecessorRows
+pub mod Turns
+pub mod Growths
+pub mod Exploring

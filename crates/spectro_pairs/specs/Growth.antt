@@ -1,0 +1,78 @@
+-- How an exploration grows.
+use Rattle.std.specs.Prelude.{ℕ, ◌≡◌, List, [], ◌∷◌, ◌++◌, map, slice_get, Some}
+use Rattle.spectro_spec.specs.System.{System}
+use Rattle.spectro_game.specs.Pairs.{Pair, followers, observed, observed_under, size}
+use Rattle.spectro_game.specs.Reached.{StandsAt}
+use Rattle.spectro_theory.specs.Reaching.{AreReachedPairsTo, with_all, is_same_pair}
+use Rattle.spectro_lts.specs.Labels.{labels_of, label_of}
+use Rattle.std.specs.Prelude.{take}
+use Rattle.spectro_pairs.specs.Explored.{NameRows, observed_labels, start_pairs}
+use Rattle.spectro_pairs.specs.Limits.{IsPastLimit}
+use Rattle.spectro_pairs.specs.declared.error.ExploreError.{ExploreError}
+use Rattle.spectro_pairs.specs.declared.exploration.Exploration.{Exploration}
+
+abbrev pub pair_of : ℕ → List ℕ → Pair
+pair_of state set = record { state = state; set = set }
+
+-- what is observed under the label of the number
+abbrev pub observed_with : System → ℕ → List ℕ → ℕ → List Pair
+observed_with system state set label_no = observed_under system (pair_of state set) (label_of system.steps label_no)
+
+-- the numbers are the places of the members
+abbrev pub Name : {X : Type 0} → List X → List ℕ → List X → Type 0
+Name members numbers xs = map (slice_get members) numbers ≡ map Some xs
+
+-- each of the pairs went last unless it stood there; the rest stays, but that more sets may be numbered
+pub record HasStarted (old new : Exploration) (added : List Pair) : Type 0 where
+  pub states : new.pairs.states ≡ old.pairs.states
+  pub limit : new.pairs.limit ≡ old.pairs.limit
+  pub pairs : new.pairs.pairs ≡ with_all is_same_pair old.pairs.pairs added
+  pub followers : new.followers ≡ old.followers
+  pub labels : new.labels ≡ old.labels
+
+-- each of the pairs went last unless it stood there, their numbers are behind the open row of followers, and the labels behind that of labels
+pub record HasReached (old new : Exploration) (added : List Pair) (label_nos : List ℕ) : Type 0 where
+  pub states : new.pairs.states ≡ old.pairs.states
+  pub limit : new.pairs.limit ≡ old.pairs.limit
+  pub pairs : new.pairs.pairs ≡ with_all is_same_pair old.pairs.pairs added
+  pub numbers : List ℕ
+  pub followers : new.followers ≡ record old.followers { last = old.followers.last ++ numbers }
+  pub named : Name new.pairs.pairs numbers added
+  pub labels : new.labels ≡ record old.labels { last = old.labels.last ++ label_nos }
+
+-- all that is observed from x was reached
+pub record HasObserved (system : System) (old new : Exploration) (x : Pair) : Type 0 where
+  pub label_nos : List ℕ
+  pub reached : HasReached old new (observed system x) label_nos
+  pub labelled : Name (labels_of system.steps) label_nos (observed_labels system x)
+
+-- the followers of pair k were reached, and there is a row more of their numbers and one of labels
+pub record HasExpanded (system : System) (old new : Exploration) (k : ℕ) : Type 0 where
+  pub x : Pair
+  pub here : StandsAt old.pairs.pairs k x
+  pub states : new.pairs.states ≡ old.pairs.states
+  pub limit : new.pairs.limit ≡ old.pairs.limit
+  pub pairs : new.pairs.pairs ≡ with_all is_same_pair old.pairs.pairs (followers system x)
+  pub numbers : List ℕ
+  pub rows : new.followers ≡ record { rows = old.followers.rows ++ numbers ∷ []; last = [] }
+  pub named : Name new.pairs.pairs numbers (followers system x)
+  pub label_nos : List ℕ
+  pub label_rows : new.labels ≡ record { rows = old.labels.rows ++ label_nos ∷ []; last = [] }
+  pub labelled : Name (labels_of system.steps) label_nos (observed_labels system x)
+
+-- with these pairs the size is past the limit
+abbrev pub IsPastWith : ExploreError → Exploration → List Pair → Type 0
+IsPastWith e exploration added = IsPastLimit e exploration.pairs.limit (size (with_all is_same_pair exploration.pairs.pairs added))
+
+-- with the followers of pair k it is
+abbrev pub IsPastFollowers : ExploreError → System → Exploration → ℕ → Type 0
+IsPastFollowers e system exploration k = (x : Pair) × StandsAt exploration.pairs.pairs k x × IsPastWith e exploration (followers system x)
+
+-- the followers of the first k pairs are reached, with rows for these k
+pub record AreExplored (system : System) (starts : List (ℕ × ℕ)) (exploration : Exploration) (k : ℕ) : Type 0 where
+  pub states : exploration.pairs.states ≡ system.states
+  pub reached : AreReachedPairsTo system (start_pairs starts) exploration.pairs.pairs k
+  pub followers_closed : exploration.followers.last ≡ []
+  pub followers : NameRows exploration.pairs.pairs exploration.followers.rows (map (followers system) (take k exploration.pairs.pairs))
+  pub labels_closed : exploration.labels.last ≡ []
+  pub labels : NameRows (labels_of system.steps) exploration.labels.rows (map (observed_labels system) (take k exploration.pairs.pairs))

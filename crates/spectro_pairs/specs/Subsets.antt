@@ -1,0 +1,8 @@
+-- Subsets of a set by their masks.
+use Rattle.std.specs.Prelude.{ℕ, ◌≡◌, List}
+use Rattle.spectro_game.specs.Divisions.{Division, divisions}
+use Rattle.spectro_game.specs.Reached.{StandsAt}
+
+-- the members are the left part of the division at the place of the mask
+abbrev pub IsSubsetAt : List ℕ → ℕ → List ℕ → Type 0
+IsSubsetAt set mask members = (division : Division) × StandsAt (divisions set) mask division × (division.left ≡ members)

@@ -1,0 +1,17 @@
+//! Reached pairs: the pairs of a state and a state set that starts reach, by number, with their followers and predecessors.
+#![tactic(auto)]
+
+mod arena;
+mod error;
+mod exploration;
+mod pairs;
+mod reaching;
+mod rows;
+mod subsets;
+#[cfg(test)]
+mod tests;
+mod transposed;
+
+pub use arena::{Arena, Observation};
+pub use error::ExploreError;
+pub use reaching::explore;
