@@ -2,10 +2,11 @@ pub mod Costs
 pub mod Evaluated
 pub mod Finished
 pub mod OneOutcome
+pub mod OneSize
 pub mod Priced
 pub mod PutLines
 pub mod ReadFronts
-pub mod Rewritten
+pub mod Sized
 pub mod SystemTexts
 pub mod Taken
 pub mod WeightTexts

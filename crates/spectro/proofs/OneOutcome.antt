@@ -6,6 +6,7 @@ use Rattle.std.proofs.lemmas.Option.{same_Some}
 use Rattle.spectro_spec.specs.Formula.{Formula, Satisfies}
 use Rattle.spectro_spec.specs.Pricing.{price}
 use Rattle.spectro_spec.specs.Weighing.{Weighing}
+use Rattle.spectro_theory.specs.LawsOfPairs.{ReachedPairsAreOne}
 use Rattle.spectro_io.specs.Shelves.{Texts}
 use Rattle.spectro_aut.specs.Laws.{SystemsAreOne, FirstFaultsAreOne, TextsHaveNoFault}
 use Rattle.spectro_aut.specs.Written.{text_of}
@@ -25,11 +26,11 @@ use Rattle.spectro.specs.Weighted.{GivesWeighing, RefusesHeld, RefusesWeights, p
 use Rattle.spectro.specs.Commands.Eval.{EvalGives, SaysTruth, no_system, no_formula, no_weights, answered, eval_text}
 use Rattle.spectro.specs.Commands.Price as pricing
 use Rattle.spectro.specs.Commands.Rewrite as rewriting
-use Rattle.spectro.specs.Files.{FileOutcome}
 use Rattle.spectro.specs.Outcome.{CommandOutcome}
 use Rattle.spectro.specs.Words as words
 use Rattle.spectro.specs.Words.{Word, Command}
-use Rattle.spectro.proofs.SystemTexts.{refused_text, same_refusal}
+use Rattle.spectro.proofs.SystemTexts.{refused_file, same_file_refusal, same_held}
+use Rattle.spectro.proofs.OneSize.{one_size}
 
 -- the same status, and the same bytes
 pub record AreSame (one other : Status) (bytes more : List ℕ) : Type 0 where
@@ -42,13 +43,6 @@ same_answer P true true first second = refl
 same_answer P true false first second = let wrong : IsTrue false = second.1 (first.0 refl) in cc
 same_answer P false true first second = let wrong : IsTrue false = first.1 (second.0 refl) in cc
 same_answer P false false first second = refl
-
--- where each text has one outcome, a file has one
-one_of_file : (gives : List ℕ → Status → List ℕ → Type 0)
-    → ((text bytes more : List ℕ) (one other : Status) → gives text one bytes → gives text other more → AreSame one other bytes more)
-    → (held : Option (List ℕ)) (bytes more : List ℕ) (one other : Status) → FileOutcome gives held one bytes → FileOutcome gives held other more → AreSame one other bytes more
-one_of_file gives one_of_text None bytes more one other first second = record { status = first.0 ∙ sym second.0; output = first.1 ∙ sym second.1 }
-one_of_file gives one_of_text (Some text) bytes more one other first second = one_of_text text bytes more one other first second
 
 -- ---- the text of a formula
 module _ (one_formula : formulas.FormulasAreOne) (one_fault : formulas.FirstFaultsAreOne) (no_fault : formulas.TextsHaveNoFault) where
@@ -94,34 +88,35 @@ module _
     (one_weighing : weightings.WeighingsAreOne)
     (one_weight_fault : weightings.FirstFaultsAreOne)
     (no_weight_fault : weightings.TextsHaveNoFault)
+    (one_list : ReachedPairsAreOne)
   where
     module _ (texts : Texts) (word : Word) (weights : Option Word) where
-      one_answer : (text bytes more : List ℕ) (one other : Status) → EvalGives texts word weights text one bytes → EvalGives texts word weights text other more → AreSame one other bytes more
-      one_answer text bytes more one other (no_system first none) (no_system second none') = record { status = same_refusal one_fault Left text one other first second; output = none ∙ sym none' }
-      one_answer text bytes more one other (no_system first none) (no_formula system is second none') = absurd (refused_text no_fault Left text one system first is)
-      one_answer text bytes more one other (no_system first none) (no_weights system formula is is_formula second none') = absurd (refused_text no_fault Left text one system first is)
-      one_answer text bytes more one other (no_system first none) (answered system formula weighing is is_formula weighed done says) = absurd (refused_text no_fault Left text one system first is)
-      one_answer text bytes more one other (no_formula system is first none) (no_system second none') = absurd (refused_text no_fault Left text other system second is)
-      one_answer text bytes more one other (no_formula system is first none) (no_formula system' is' second none') =
+      one_answer : (file : Word) (bytes more : List ℕ) (one other : Status) → EvalGives texts word file weights one bytes → EvalGives texts word file weights other more → AreSame one other bytes more
+      one_answer file bytes more one other (no_system first none) (no_system second none') = record { status = same_file_refusal one_fault Left (texts file) one other first second; output = none ∙ sym none' }
+      one_answer file bytes more one other (no_system first none) (no_formula system is second none') = absurd (refused_file no_fault Left (texts file) one system first is)
+      one_answer file bytes more one other (no_system first none) (no_weights system formula is is_formula second none') = absurd (refused_file no_fault Left (texts file) one system first is)
+      one_answer file bytes more one other (no_system first none) (answered system formula weighing is is_formula weighed done says) = absurd (refused_file no_fault Left (texts file) one system first is)
+      one_answer file bytes more one other (no_formula system is first none) (no_system second none') = absurd (refused_file no_fault Left (texts file) other system second is)
+      one_answer file bytes more one other (no_formula system is first none) (no_formula system' is' second none') =
           record { status = same_formula_refusal one_formula one_formula_fault no_formula_fault word one other first second; output = none ∙ sym none' }
-      one_answer text bytes more one other (no_formula system is first none) (no_weights system' formula is' is_formula second none') =
+      one_answer file bytes more one other (no_formula system is first none) (no_weights system' formula is' is_formula second none') =
           absurd (refused_formula one_formula one_formula_fault no_formula_fault word formula one is_formula first)
-      one_answer text bytes more one other (no_formula system is first none) (answered system' formula weighing is' is_formula weighed done says) =
+      one_answer file bytes more one other (no_formula system is first none) (answered system' formula weighing is' is_formula weighed done says) =
           absurd (refused_formula one_formula one_formula_fault no_formula_fault word formula one is_formula first)
-      one_answer text bytes more one other (no_weights system formula is is_formula first none) (no_system second none') = absurd (refused_text no_fault Left text other system second is)
-      one_answer text bytes more one other (no_weights system formula is is_formula first none) (no_formula system' is' second none') =
+      one_answer file bytes more one other (no_weights system formula is is_formula first none) (no_system second none') = absurd (refused_file no_fault Left (texts file) other system second is)
+      one_answer file bytes more one other (no_weights system formula is is_formula first none) (no_formula system' is' second none') =
           absurd (refused_formula one_formula one_formula_fault no_formula_fault word formula other is_formula second)
-      one_answer text bytes more one other (no_weights system formula is is_formula first none) (no_weights system' formula' is' is_formula' second none') =
+      one_answer file bytes more one other (no_weights system formula is is_formula first none) (no_weights system' formula' is' is_formula' second none') =
           record { status = same_weights_refusal one_weighing one_weight_fault no_weight_fault texts weights one other first second; output = none ∙ sym none' }
-      one_answer text bytes more one other (no_weights system formula is is_formula first none) (answered system' formula' weighing is' is_formula' weighed done says) =
+      one_answer file bytes more one other (no_weights system formula is is_formula first none) (answered system' formula' weighing is' is_formula' weighed done says) =
           absurd (refused_weights one_weighing one_weight_fault no_weight_fault texts weights weighing one weighed first)
-      one_answer text bytes more one other (answered system formula weighing is is_formula weighed done says) (no_system second none') = absurd (refused_text no_fault Left text other system second is)
-      one_answer text bytes more one other (answered system formula weighing is is_formula weighed done says) (no_formula system' is' second none') =
+      one_answer file bytes more one other (answered system formula weighing is is_formula weighed done says) (no_system second none') = absurd (refused_file no_fault Left (texts file) other system second is)
+      one_answer file bytes more one other (answered system formula weighing is is_formula weighed done says) (no_formula system' is' second none') =
           absurd (refused_formula one_formula one_formula_fault no_formula_fault word formula other is_formula second)
-      one_answer text bytes more one other (answered system formula weighing is is_formula weighed done says) (no_weights system' formula' is' is_formula' second none') =
+      one_answer file bytes more one other (answered system formula weighing is is_formula weighed done says) (no_weights system' formula' is' is_formula' second none') =
           absurd (refused_weights one_weighing one_weight_fault no_weight_fault texts weights weighing other weighed second)
-      one_answer text bytes more one other (answered system formula weighing is is_formula weighed done says) (answered system' formula' weighing' is' is_formula' weighed' done' says') =
-          let system_same : system' ≡ system = one_system text system' system is' is in
+      one_answer file bytes more one other (answered system formula weighing is is_formula weighed done says) (answered system' formula' weighing' is' is_formula' weighed' done' says') =
+          let system_same : system' ≡ system = same_held one_system (texts file) system' system is' is in
           let formula_same : formula' ≡ formula = one_formula word formula' formula is_formula' is_formula in
           let weighing_same : weighing' ≡ weighing = same_weighing one_weighing one_weight_fault no_weight_fault texts weights weighing' weighing weighed' weighed in
           let says_same : SaysTruth system formula weighing (parts_shown weights) more =
@@ -154,16 +149,19 @@ module _
                 ∙ ap (λ w. pricing.priced_text (formula_text formula') (parts_shown weights) (price w formula')) weighing_same ∙ sym says';
           }
 
-    one_rewriting : (text bytes more : List ℕ) (one other : Status) → rewriting.RewriteGives text one bytes → rewriting.RewriteGives text other more → AreSame one other bytes more
-    one_rewriting text bytes more one other (rewriting.no_system first none) (rewriting.no_system second none') = record { status = same_refusal one_fault Left text one other first second; output = none ∙ sym none' }
-    one_rewriting text bytes more one other (rewriting.no_system first none) (rewriting.rewritten system is done says) = absurd (refused_text no_fault Left text one system first is)
-    one_rewriting text bytes more one other (rewriting.rewritten system is done says) (rewriting.no_system second none') = absurd (refused_text no_fault Left text other system second is)
-    one_rewriting text bytes more one other (rewriting.rewritten system is done says) (rewriting.rewritten system' is' done' says') =
-        record { status = done ∙ sym done'; output = says ∙ ap text_of (one_system text system system' is is') ∙ sym says' }
+    one_rewriting : (texts : Texts) (file : Word) (bytes more : List ℕ) (one other : Status) → rewriting.RewriteGives texts file one bytes → rewriting.RewriteGives texts file other more → AreSame one other bytes more
+    one_rewriting texts file bytes more one other (rewriting.no_system first none) (rewriting.no_system second none') = record { status = same_file_refusal one_fault Left (texts file) one other first second; output = none ∙ sym none' }
+    one_rewriting texts file bytes more one other (rewriting.no_system first none) (rewriting.rewritten system is done says) = absurd (refused_file no_fault Left (texts file) one system first is)
+    one_rewriting texts file bytes more one other (rewriting.rewritten system is done says) (rewriting.no_system second none') = absurd (refused_file no_fault Left (texts file) other system second is)
+    one_rewriting texts file bytes more one other (rewriting.rewritten system is done says) (rewriting.rewritten system' is' done' says') =
+        record { status = done ∙ sym done'; output = says ∙ ap text_of (same_held one_system (texts file) system system' is is') ∙ sym says' }
 
     pub one_of_command : (asked : Option Command) (texts : Texts) (one other : Status) (bytes more : List ℕ) → CommandOutcome asked texts one bytes → CommandOutcome asked texts other more → AreSame one other bytes more
     one_of_command None texts one other bytes more first second = record { status = first.0 ∙ sym second.0; output = first.1 ∙ sym second.1 }
     one_of_command (Some (words.eval formula file weights)) texts one other bytes more first second =
-        one_of_file (EvalGives texts formula weights) (one_answer texts formula weights) (texts file) bytes more one other first second
-    one_of_command (Some (words.rewrite file)) texts one other bytes more first second = one_of_file rewriting.RewriteGives one_rewriting (texts file) bytes more one other first second
+        one_answer texts formula weights file bytes more one other first second
+    one_of_command (Some (words.rewrite file)) texts one other bytes more first second = one_rewriting texts file bytes more one other first second
     one_of_command (Some (words.price formula weights)) texts one other bytes more first second = one_pricing texts formula weights bytes more one other first second
+    one_of_command (Some (words.size left right limit)) texts one other bytes more first second =
+        let same = one_size one_system one_fault no_fault one_list texts left right limit bytes more one other first second in
+        record { status = same.0; output = same.1 }

@@ -13,17 +13,18 @@ use Rattle.spectro.specs.declared.status.Status.TheVariants.{Done}
 use Rattle.spectro.specs.Causes.{OrMemory}
 use Rattle.spectro.specs.Refusals.{RefusesFormula}
 use Rattle.spectro.specs.Commands.Price.{PriceGives, no_formula, no_weights, priced, priced_text}
+use Rattle.spectro.specs.Stops as stops
 use Rattle.spectro.specs.Stops.{IsStopped}
 use Rattle.spectro.specs.Weighted.{GivesWeighing, RefusesWeights, parts_shown}
 use Rattle.spectro.specs.Words.{Word}
-use Rattle.spectro.proofs.Finished.{told_map, stopped_map, stopped_refused}
+use Rattle.spectro.proofs.Finished.{for_told, told_map, stopped_map}
 
 module _ (word : Word) (weights : Option Word) where
   module _ (told : Option Texts) (Lacks : Type 0) (before now : ℕ) (status : Status) where
     -- the formula is refused
     pub refused_formula : OrMemory (RefusesFormula word) status → IsStopped told (λ texts. PriceGives texts word weights) Lacks before now status
-    refused_formula (inl memory) = stopped_refused (λ texts. PriceGives texts word weights) told Lacks before now status (inl memory)
-    refused_formula (inr refused) = stopped_refused (λ texts. PriceGives texts word weights) told Lacks before now status (inr (_, refused.2, λ texts. no_formula refused refl))
+    refused_formula (inl memory) = stops.no_memory memory
+    refused_formula (inr is) = stops.refused _ is.2 (for_told told (λ texts. no_formula is refl))
 
     -- it is accepted, and the weights are refused
     pub refused_weights : (formula : Formula) → IsFormulaText word formula → IsStopped told (λ texts status _. RefusesWeights texts weights status) Lacks before now status

@@ -4,7 +4,7 @@ use Rattle.spectro_io.specs.Faults.{Rose}
 use Rattle.spectro_io.specs.Limits.{read_limit}
 use Rattle.spectro_io.specs.Shelves.{Texts}
 use Rattle.spectro_aut.specs.Feeding.{Fed, HasTaken}
-use Rattle.spectro.specs.Words.{Word, Command, eval, rewrite, price}
+use Rattle.spectro.specs.Words.{Word, Command, eval, rewrite, price, size}
 use Rattle.spectro.specs.declared.status.Status.{Status}
 use Rattle.spectro.specs.declared.status.Status.TheVariants.{Usage, ReadFault, WriteFault, OutOfMemory}
 
@@ -42,6 +42,7 @@ LacksFile told None = ⊥
 LacksFile told (Some (eval formula file weights)) = HoldsNothing told file ⊎ LacksWeights told weights
 LacksFile told (Some (rewrite file)) = HoldsNothing told file
 LacksFile told (Some (price formula weights)) = LacksWeights told weights
+LacksFile told (Some (size left right limit)) = HoldsNothing told left ⊎ HoldsNothing told right
 
 -- how often the devices had failed before the call, and after it
 pub record Counts : Type 0 where

@@ -2,3 +2,4 @@
 pub mod Eval
 pub mod Rewrite
 pub mod Price
+pub mod Size

@@ -3,7 +3,6 @@ pub mod Words
 pub mod Asked
 pub mod Refusals
 pub mod Weighted
-pub mod Files
 pub mod Notation
 pub mod Commands
 pub mod Outcome

@@ -7,20 +7,22 @@ use Rattle.spectro_io.specs.Faults.{Rose}
 use Rattle.spectro_aut.specs.Kinds as aut
 use Rattle.spectro_hmltext.specs.Kinds as hmltext
 use Rattle.spectro_weights.specs.Kinds as weights
-use Rattle.spectro.specs.Words.{Word, Command, eval, rewrite, price, command}
+use Rattle.spectro.specs.Words.{Word, Command, eval, rewrite, price, size, command}
 use Rattle.spectro.specs.declared.status.BadText as declared
 use Rattle.spectro.specs.declared.status.Kind.{Kind}
 use Rattle.spectro.specs.declared.status.Kind.TheVariants as kinds
 use Rattle.spectro.specs.declared.status.Status.{Status}
 use Rattle.spectro.specs.declared.status.Status.TheVariants.{Done, No, Usage, BadText, TooLarge, ReadFault, WriteFault, OutOfMemory}
 use Rattle.spectro.specs.declared.status.Which.{Which}
-use Rattle.spectro.specs.declared.status.Which.TheVariants.{Left, Formula, Weights}
+use Rattle.spectro.specs.declared.status.Which.TheVariants.{Left, Right, Formula, Weights}
 
 -- how a text of the command is called: a file by its name, the formula by that word, and a text that it has not by nothing
 abbrev pub text_name : Which → Option Command → List ℕ
 text_name Formula asked = codes "formula"
 text_name Left (Some (eval formula file weights)) = file
 text_name Left (Some (rewrite file)) = file
+text_name Left (Some (size left right limit)) = left
+text_name Right (Some (size left right limit)) = right
 text_name Weights (Some (eval formula file (Some name))) = name
 text_name Weights (Some (price formula (Some name))) = name
 text_name which asked = []

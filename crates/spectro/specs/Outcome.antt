@@ -6,17 +6,18 @@ use Rattle.spectro_io.specs.Bytes.{AppendsPart}
 use Rattle.spectro.specs.Commands.Eval.{EvalGives}
 use Rattle.spectro.specs.Commands.Rewrite.{RewriteGives}
 use Rattle.spectro.specs.Commands.Price.{PriceGives}
-use Rattle.spectro.specs.Files.{FileOutcome}
-use Rattle.spectro.specs.Words.{Word, Command, eval, rewrite, price, command}
+use Rattle.spectro.specs.Commands.Size.{SizeGives}
+use Rattle.spectro.specs.Words.{Word, Command, eval, rewrite, price, size, command}
 use Rattle.spectro.specs.declared.status.Status.{Status}
 use Rattle.spectro.specs.declared.status.Status.TheVariants.{Done, No, Usage, ReadFault, WriteFault, OutOfMemory}
 
 -- what the command gives, if the words are one
 abbrev pub CommandOutcome : Option Command → Texts → Status → List ℕ → Type 0
 CommandOutcome None texts status bytes = (status ≡ Usage) × (bytes ≡ [])
-CommandOutcome (Some (eval formula file weights)) texts status bytes = FileOutcome (EvalGives texts formula weights) (texts file) status bytes
-CommandOutcome (Some (rewrite file)) texts status bytes = FileOutcome RewriteGives (texts file) status bytes
+CommandOutcome (Some (eval formula file weights)) texts status bytes = EvalGives texts formula file weights status bytes
+CommandOutcome (Some (rewrite file)) texts status bytes = RewriteGives texts file status bytes
 CommandOutcome (Some (price formula weights)) texts status bytes = PriceGives texts formula weights status bytes
+CommandOutcome (Some (size left right limit)) texts status bytes = SizeGives texts left right limit status bytes
 
 -- the outcome of the words over these texts
 abbrev pub IsOutcome : List Word → Texts → Status → List ℕ → Type 0

@@ -3,3 +3,4 @@
 pub mod eval;
 pub mod price;
 pub mod rewrite;
+pub mod size;

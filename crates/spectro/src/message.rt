@@ -18,6 +18,8 @@ fn text_name<'a>(which: Which, command: Option<Command<'a>>) -> &'a str
     match (which, command) {
         (Which::Formula, _) => "formula",
         (Which::Left, Some(Command::Eval { file, .. } | Command::Rewrite { file })) => file,
+        (Which::Left, Some(Command::Size { left, .. })) => left,
+        (Which::Right, Some(Command::Size { right, .. })) => right,
         (
             Which::Weights,
             Some(

@@ -4,11 +4,12 @@ ghost use Rattle.spectro.specs.Asked.{asked};
 ghost use Rattle.spectro.specs.Causes.{HasCauses};
 ghost use Rattle.spectro.specs.Messages.{IsUntold, Tells, message};
 ghost use Rattle.spectro.specs.Outcome.{Answers, CommandOutcome, IsOutcome, IsSilent};
-ghost use Rattle.spectro.specs.Words.{command, words_of};
+ghost use Rattle.spectro.specs.Words.{HasLimit, command, words_of};
 
 use crate::commands::eval::eval;
 use crate::commands::price::price;
 use crate::commands::rewrite::rewrite;
+use crate::commands::size::size;
 use crate::message::write_message;
 use crate::status::Status;
 use crate::words::{Command, command_of};
@@ -22,6 +23,7 @@ fn perform<H: Shelf, O: Sink>(
     shelf: &mut H,
     out: &mut O,
 ) -> Status
+    requires limit { IfSome command (λ command. HasLimit (asked command)) }
     ensures answer { IfSome (H.texts shelf.old) (λ texts. Answers (CommandOutcome (option_map asked command.entry) texts) result (O.written out.old) (O.written out.new)) }
     ensures causes { HasCauses (H.texts shelf.old) (option_map asked command.entry) (record { shelf_before = H.faults shelf.old; shelf_now = H.faults shelf.new; out_before = O.faults out.old; out_now = O.faults out.new }) result }
     ensures silent { IsSilent result out.old out.new }
@@ -39,13 +41,14 @@ fn perform<H: Shelf, O: Sink>(
         ) => eval(alloc, formula, file, weights, shelf, out),
         Some(Command::Rewrite { file }) => rewrite(alloc, file, shelf, out),
         Some(Command::Price { formula, weights }) => price(alloc, formula, weights, shelf, out),
+        Some(Command::Size { left, right, limit }) => size(alloc, left, right, limit, shelf, out),
     }
 }
 
 /// Does what the words ask for, over the devices, and writes the message of how it ended.
 ///
-/// The order is: the words; opening and reading the file, then its grammar; the formula; opening and reading the
-/// weights, then their grammar; the writing. The first refusal that is met is the answer. All memory is taken before
+/// The order is: the words; opening and reading the left file, then its grammar; the right file likewise; the formula;
+/// opening and reading the weights, then their grammar; the size; the writing. A command skips what it has not. The first refusal that is met is the answer. All memory is taken before
 /// the first byte is written. A message that cannot be written changes nothing of the answer.
 pub fn run<H: Shelf, I: Source, O: Sink, E: Sink>(
     alloc: Global,

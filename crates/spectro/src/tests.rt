@@ -5,6 +5,7 @@ mod eval;
 mod messages;
 mod price;
 mod rewrite;
+mod size;
 
 use crate::run::run;
 use crate::status::Status;
@@ -19,6 +20,44 @@ const CHOICE: &str = "des (0,2,2)\n(0,b,1)\n(0,c,1)\n";
 
 // After a, either b or c, as the first step decides.
 const EARLY_CHOICE: &str = "des (0, 4, 4)\n(0, a, 1)\n(0, a, 2)\n(1, b, 3)\n(2, c, 3)\n";
+
+// After a, both b and c.
+const LATE_CHOICE: &str = "des (0, 3, 3)\n(0, a, 1)\n(1, b, 2)\n(1, c, 2)\n";
+
+// One a.
+const ONE_STEP: &str = "des (0, 1, 2)\n(0, a, 1)\n";
+
+// Two places for two values: first in, first out.
+const QUEUE: &str = "des (0, 12, 7)
+(0, \"PUT !0\", 1)
+(0, \"PUT !1\", 2)
+(1, \"PUT !0\", 3)
+(1, \"PUT !1\", 4)
+(1, \"GET !0\", 0)
+(2, \"PUT !0\", 5)
+(2, \"PUT !1\", 6)
+(2, \"GET !1\", 0)
+(3, \"GET !0\", 1)
+(4, \"GET !0\", 2)
+(5, \"GET !1\", 1)
+(6, \"GET !1\", 2)
+";
+
+// Two places for two values, in no order.
+const BAG: &str = "des (0, 12, 6)
+(0, \"PUT !0\", 1)
+(0, \"PUT !1\", 2)
+(1, \"PUT !0\", 3)
+(1, \"PUT !1\", 4)
+(1, \"GET !0\", 0)
+(2, \"PUT !0\", 4)
+(2, \"PUT !1\", 5)
+(2, \"GET !1\", 0)
+(3, \"GET !0\", 1)
+(4, \"GET !0\", 2)
+(4, \"GET !1\", 1)
+(5, \"GET !1\", 2)
+";
 
 // Gates with values, in quotes and bare, with a CR before each LF and a blank line.
 const GATES: &str = "des(0,2,2)\r\n\r\n(0, \"PUT (1, \"x\")\", 1)\r\n(1, GET !1, 0)";
@@ -35,10 +74,14 @@ const WEIGHTS: &str = "0 \"a\"\n5 \"b\"\n";
 // The second line weighs a label again.
 const TWICE: &str = "1 \"a\"\n2 \"a\"\n";
 
-const FILES: [(&str, &str); 8] = [
+const FILES: [(&str, &str); 12] = [
     ("stopped.aut", STOPPED),
     ("choice.aut", CHOICE),
     ("early.aut", EARLY_CHOICE),
+    ("late.aut", LATE_CHOICE),
+    ("step.aut", ONE_STEP),
+    ("queue.aut", QUEUE),
+    ("bag.aut", BAG),
     ("gates.aut", GATES),
     ("cut.aut", CUT),
     ("short.aut", SHORT),

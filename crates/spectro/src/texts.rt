@@ -1,14 +1,15 @@
 //! The texts that commands ask for: read from the shelf to their ends, and then taken as what they stand for.
 
 ghost use Rattle.std.specs.Prelude.{◌≡◌, ◌≤◌, ℕ, List, IfOk, IfErr, IfSome, IsErrOf};
+ghost use Rattle.spectro_aut.specs.RoundTrip.{KeepsLimits};
 ghost use Rattle.spectro_io.specs.Faults.{Rose};
 ghost use Rattle.spectro_aut.specs.Feeding.{HasTaken};
 ghost use Rattle.spectro_hmltext.specs.Parsing.{IsParsed};
 ghost use Rattle.spectro_weights.specs.WeightTexts.{IsWeightText};
 ghost use Rattle.spectro.specs.Asked.{named};
-ghost use Rattle.spectro.specs.Causes.{HasRead, HasTakenText, LacksWeights, OrMemory, IsUnread};
+ghost use Rattle.spectro.specs.Causes.{HoldsNothing, HasRead, HasTakenText, LacksWeights, OrMemory, IsUnread};
 ghost use Rattle.spectro.specs.Feeds.{TakesAll};
-ghost use Rattle.spectro.specs.Refusals.{IsTextOf, RefusesSystem, RefusesFormula, RefusesWeighing};
+ghost use Rattle.spectro.specs.Refusals.{HoldsSystem, IsTextOf, RefusesFile, RefusesSystem, RefusesFormula, RefusesWeighing};
 ghost use Rattle.spectro.specs.Stops.{IsStopped};
 ghost use Rattle.spectro.specs.Weighted.{GivesWeighing, RefusesWeights};
 
@@ -45,8 +46,8 @@ fn take_all<S: Source>(alloc: Global, source: &mut S) -> Result<Feed, ReadError>
     Ok(feed)
 }
 
-/// A feed that has taken the text that the name holds, or as much of it as is read.
-pub fn take_text<H: Shelf>(alloc: Global, name: &str, shelf: &mut H) -> Result<Feed, Status>
+// A feed that has taken the text that the name holds, or as much of it as is read.
+fn take_text<H: Shelf>(alloc: Global, name: &str, shelf: &mut H) -> Result<Feed, Status>
     ensures text { IfOk result (HasTakenText (H.texts shelf.old) name.now) }
     ensures cause { IfErr result (OrMemory (IsUnread (H.texts shelf.old) name.now (H.faults shelf.old) (H.faults shelf.new))) }
     ensures texts { H.texts shelf.new ≡ H.texts shelf.old }
@@ -62,8 +63,8 @@ pub fn take_text<H: Shelf>(alloc: Global, name: &str, shelf: &mut H) -> Result<F
     }
 }
 
-/// The system of the text that was taken.
-pub fn read_system(feed: Feed, which: Which) -> Result<Lts, Status>
+// The system of the text that was taken.
+fn read_system(feed: Feed, which: Which) -> Result<Lts, Status>
     ensures ok { IfOk result (λ lts. (bytes : List ℕ) → HasTaken feed bytes → IsTextOf bytes lts) }
     ensures refused { IfErr result (λ status. (bytes : List ℕ) → HasTaken feed bytes → OrMemory (RefusesSystem which bytes) status) }
 {
@@ -75,6 +76,25 @@ pub fn read_system(feed: Feed, which: Which) -> Result<Lts, Status>
             kind: Kind::Aut(fault.kind),
         })),
         Err(AutError::OutOfMemory) => Err(Status::OutOfMemory),
+    }
+}
+
+/// The system of the text that the name holds.
+pub fn take_system<H: Shelf>(
+    alloc: Global,
+    name: &str,
+    which: Which,
+    shelf: &mut H,
+) -> Result<Lts, Status>
+    ensures ok { IfOk result (λ lts. IfSome (H.texts shelf.old) (λ texts. HoldsSystem (texts name.now) lts)) }
+    ensures limits { IfOk result KeepsLimits }
+    ensures stopped { IfErr result (IsStopped (H.texts shelf.old) (λ texts status _. RefusesFile which (texts name.now) status) (HoldsNothing (H.texts shelf.old) name.now) (H.faults shelf.old) (H.faults shelf.new)) }
+    ensures texts { H.texts shelf.new ≡ H.texts shelf.old }
+    ensures later { H.faults shelf.old ≤ H.faults shelf.new }
+{
+    match take_text(alloc, name, shelf) {
+        Ok(feed) => read_system(feed, which),
+        Err(status) => Err(status),
     }
 }
 

@@ -6,6 +6,7 @@ ghost use Rattle.spectro.specs.Words.{Word};
 
 use spectro_aut::{first_faults_are_one, systems_are_one, texts_have_no_fault};
 use spectro_hmltext as formulas;
+use spectro_theory::reached_pairs_are_one;
 use spectro_weights as weights;
 
 /// The words and the texts have at most one outcome: one status, and one row of bytes.
@@ -22,4 +23,5 @@ pub fn one_outcome()
     weights::weighings_are_one();
     weights::first_faults_are_one();
     weights::texts_have_no_fault();
+    reached_pairs_are_one();
 }

@@ -1,4 +1,4 @@
--- What `eval` gives for the text of a formula, that of a file, and the weights that are asked for.
+-- What `eval` gives for the text of a formula, a file, and the weights that are asked for.
 use Rattle.std.specs.Prelude.{ℕ, ◌≡◌, ◌↔◌, Bool, List, [], ◌++◌, IsTrue, Option}
 use Rattle.spectro_spec.specs.System.{System}
 use Rattle.spectro_spec.specs.Formula.{Formula, Satisfies}
@@ -9,7 +9,7 @@ use Rattle.spectro_io.specs.Shelves.{Texts}
 use Rattle.spectro_energy.specs.declared.parts.Parts.{Parts}
 use Rattle.spectro_hmltext.specs.FormulaTexts.{IsFormulaText}
 use Rattle.spectro.specs.Notation.{truth_line, price_line}
-use Rattle.spectro.specs.Refusals.{IsTextOf, RefusesSystem, RefusesFormula}
+use Rattle.spectro.specs.Refusals.{HoldsSystem, RefusesFile, RefusesFormula}
 use Rattle.spectro.specs.Weighted.{GivesWeighing, RefusesWeights, parts_shown}
 use Rattle.spectro.specs.Words.{Word}
 use Rattle.spectro.specs.declared.status.Status.{Status}
@@ -25,9 +25,9 @@ abbrev pub SaysTruth : System → Formula → Weighing → Parts → List ℕ �
 SaysTruth system formula weighing parts bytes = (answer : Bool) × (IsTrue answer ↔ Satisfies system system.initial formula) × (bytes ≡ eval_text answer parts (price weighing formula))
 
 -- the first refusal that is met, or the answer
-pub data EvalGives (texts : Texts) (word : Word) (weights : Option Word) (text : List ℕ) (status : Status) (bytes : List ℕ) : Type 0 where
-  no_system : RefusesSystem Left text status → bytes ≡ [] → EvalGives texts word weights text status bytes
-  no_formula : (system : System) → IsTextOf text system → RefusesFormula word status → bytes ≡ [] → EvalGives texts word weights text status bytes
-  no_weights : (system : System) (formula : Formula) → IsTextOf text system → IsFormulaText word formula → RefusesWeights texts weights status → bytes ≡ [] → EvalGives texts word weights text status bytes
-  answered : (system : System) (formula : Formula) (weighing : Weighing) → IsTextOf text system → IsFormulaText word formula → GivesWeighing texts weights weighing → status ≡ Done
-      → SaysTruth system formula weighing (parts_shown weights) bytes → EvalGives texts word weights text status bytes
+pub data EvalGives (texts : Texts) (word file : Word) (weights : Option Word) (status : Status) (bytes : List ℕ) : Type 0 where
+  no_system : RefusesFile Left (texts file) status → bytes ≡ [] → EvalGives texts word file weights status bytes
+  no_formula : (system : System) → HoldsSystem (texts file) system → RefusesFormula word status → bytes ≡ [] → EvalGives texts word file weights status bytes
+  no_weights : (system : System) (formula : Formula) → HoldsSystem (texts file) system → IsFormulaText word formula → RefusesWeights texts weights status → bytes ≡ [] → EvalGives texts word file weights status bytes
+  answered : (system : System) (formula : Formula) (weighing : Weighing) → HoldsSystem (texts file) system → IsFormulaText word formula → GivesWeighing texts weights weighing → status ≡ Done
+      → SaysTruth system formula weighing (parts_shown weights) bytes → EvalGives texts word file weights status bytes

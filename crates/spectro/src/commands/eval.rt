@@ -1,13 +1,12 @@
-ghost use Rattle.std.specs.Prelude.{◌≡◌, ◌↔◌, ◌<◌, ◌≤◌, ℕ, List, length, IsTrue, Some, IfOk, IfErr, IfSome};
+ghost use Rattle.std.specs.Prelude.{◌≡◌, ◌↔◌, ◌<◌, ◌≤◌, length, IsTrue, Some, IfOk, IfErr, IfSome};
 ghost use Rattle.spectro_spec.specs.Formula.{Satisfies};
 ghost use Rattle.spectro_spec.specs.Pricing.{price};
 ghost use Rattle.spectro_energy.specs.Energy.{price_of};
 ghost use Rattle.spectro_hml.specs.Sheets.{unfolded};
 ghost use Rattle.spectro_io.specs.Bytes.{WritesWhole};
 ghost use Rattle.spectro_io.specs.Faults.{HasCause, Rose};
-ghost use Rattle.spectro_aut.specs.Feeding.{HasTaken};
 ghost use Rattle.spectro.specs.Asked.{named};
-ghost use Rattle.spectro.specs.Causes.{HasCauses, LacksWeights};
+ghost use Rattle.spectro.specs.Causes.{HasCauses, LacksFile};
 ghost use Rattle.spectro.specs.Commands.Eval.{EvalGives, eval_text};
 ghost use Rattle.spectro.specs.Notation.{truth_line};
 ghost use Rattle.spectro.specs.Outcome.{Answers, CommandOutcome, Finishes, IsSilent};
@@ -18,8 +17,7 @@ ghost use Rattle.spectro.specs.Words as words;
 use crate::cost::cost_of;
 use crate::output::{parts_shown, put_price_line};
 use crate::status::{Status, Which};
-use crate::texts::{read_formula, read_system, take_text, take_weights};
-use spectro_aut::Feed;
+use crate::texts::{read_formula, take_system, take_weights};
 use spectro_energy::{Energy, Parts};
 use spectro_eval::Truth;
 use spectro_hml::Sheet;
@@ -56,20 +54,20 @@ fn answer_of(
     })
 }
 
-// The answer for these texts and what the file of weights holds, or why there is none.
+// The answer for the formula and what the files hold, or why there is none.
 fn evaluate<H: Shelf>(
     alloc: Global,
     formula: &str,
-    feed: Feed,
+    file: &str,
     weights: Option<&str>,
     shelf: &mut H,
 ) -> Result<Answer, Status>
-    ensures ok { IfOk result (λ answer. (bytes : List ℕ) → HasTaken feed bytes → IfSome (H.texts shelf.old) (λ texts. EvalGives texts formula.now (named weights.entry) bytes Status.Done (eval_text answer.truth (parts_shown (named weights.entry)) (price_of answer.price.parts)))) }
-    ensures stopped { IfErr result (λ status. (bytes : List ℕ) → HasTaken feed bytes → IsStopped (H.texts shelf.old) (λ texts. EvalGives texts formula.now (named weights.entry) bytes) (LacksWeights (H.texts shelf.old) (named weights.entry)) (H.faults shelf.old) (H.faults shelf.new) status) }
+    ensures ok { IfOk result (λ answer. IfSome (H.texts shelf.old) (λ texts. EvalGives texts formula.now file.now (named weights.entry) Status.Done (eval_text answer.truth (parts_shown (named weights.entry)) (price_of answer.price.parts)))) }
+    ensures stopped { IfErr result (λ status. IsStopped (H.texts shelf.old) (λ texts. EvalGives texts formula.now file.now (named weights.entry)) (LacksFile (H.texts shelf.old) (Some (words.eval formula.now file.now (named weights.entry)))) (H.faults shelf.old) (H.faults shelf.new) status) }
     ensures texts { H.texts shelf.new ≡ H.texts shelf.old }
     ensures later { H.faults shelf.old ≤ H.faults shelf.new }
 {
-    let lts = read_system(feed, Which::Left)?;
+    let lts = take_system(alloc, file, Which::Left, shelf)?;
     let parsed = read_formula(alloc, formula)?;
     let weights = take_weights(alloc, weights, shelf)?;
     let answer = answer_of(alloc, &lts, &parsed.sheet, parsed.top, &weights)?;
@@ -116,11 +114,8 @@ pub fn eval<H: Shelf, O: Sink>(
     ensures silent { IsSilent result out.old out.new }
     ensures texts { H.texts shelf.new ≡ H.texts shelf.old }
 {
-    match take_text(alloc, file, shelf) {
-        Ok(feed) => match evaluate(alloc, formula, feed, weights, shelf) {
-            Ok(answer) => write_answer(answer, parts_shown(weights), out),
-            Err(status) => status,
-        },
+    match evaluate(alloc, formula, file, weights, shelf) {
+        Ok(answer) => write_answer(answer, parts_shown(weights), out),
         Err(status) => status,
     }
 }

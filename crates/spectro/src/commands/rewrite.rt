@@ -6,7 +6,7 @@ ghost use Rattle.spectro.specs.Outcome.{Answers, CommandOutcome, Finishes, IsSil
 ghost use Rattle.spectro.specs.Words as words;
 
 use crate::status::{Status, Which};
-use crate::texts::{read_system, take_text};
+use crate::texts::take_system;
 use spectro_io::{Shelf, Sink};
 use spectro_lts::Lts;
 use std::alloc::Global;
@@ -29,11 +29,8 @@ pub fn rewrite<H: Shelf, O: Sink>(alloc: Global, file: &str, shelf: &mut H, out:
     ensures silent { IsSilent result out.old out.new }
     ensures texts { H.texts shelf.new ≡ H.texts shelf.old }
 {
-    match take_text(alloc, file, shelf) {
-        Ok(feed) => match read_system(feed, Which::Left) {
-            Ok(lts) => write_system(&lts, out),
-            Err(status) => status,
-        },
+    match take_system(alloc, file, Which::Left, shelf) {
+        Ok(lts) => write_system(&lts, out),
         Err(status) => status,
     }
 }

@@ -60,10 +60,6 @@ fn what_no_run_ends_in_so_far_has_a_message(rt: HostRuntime) -> Result<(), Fail>
             missing,
             "spectro: short.aut:12: MissingLines said 30 found 4\n",
         ),
-        (
-            Status::TooLarge { limit: 1000 },
-            "spectro: more than 1000 positions\n",
-        ),
         (Status::OutOfMemory, "spectro: out of memory\n"),
         (Status::No, ""),
     ];

@@ -1,12 +1,13 @@
-use Rattle.spectro.proofs.Evaluated.{eval_answer, eval_stopped}
+use Rattle.spectro.specs.Asked.{named}
+use Rattle.spectro.specs.Commands.Eval.{EvalGives}
+use Rattle.spectro.proofs.Finished.{finished_answer, stopped_answer}
 use Rattle.spectro.proofs.commands.eval.eval.Goals as goal
 
-pub returns-in-Ok-evaluate-clause-answer : goal.returns-in-Ok-evaluate-clause-answer
-returns-in-Ok-evaluate-clause-answer g c =
-    let held = c.in-Ok.ensures.text in
-    eval_answer _ _ _ _ _ held.bytes _ _ _ _ c.in-Ok.ensures.texts held.read (c.in-Ok-evaluate.ensures.ok held.bytes held.taken) (rw c.parts_shown.ensures at c.write_answer.ensures.written)
+pub returns-in-Ok-clause-answer : goal.returns-in-Ok-clause-answer
+returns-in-Ok-clause-answer g c =
+    finished_answer (λ texts. EvalGives texts c.args.formula.now c.args.file.now (named c.args.weights)) (g.H.Source.texts c.args.shelf.now) _ _ _ _ c.in-Ok.ensures.ok
+    (rw c.parts_shown.ensures at c.write_answer.ensures.written)
 
-pub returns-in-Err-evaluate-clause-answer : goal.returns-in-Err-evaluate-clause-answer
-returns-in-Err-evaluate-clause-answer g c =
-    let held = c.in-Ok.ensures.text in
-    eval_stopped _ _ _ _ _ _ _ _ held.bytes _ _ c.in-Ok.ensures.texts held.read (c.in-Err-evaluate.ensures.stopped held.bytes held.taken)
+pub returns-in-Err-clause-answer : goal.returns-in-Err-clause-answer
+returns-in-Err-clause-answer g c =
+    stopped_answer (λ texts. EvalGives texts c.args.formula.now c.args.file.now (named c.args.weights)) (g.H.Source.texts c.args.shelf.now) _ _ _ _ _ c.in-Err.ensures.stopped

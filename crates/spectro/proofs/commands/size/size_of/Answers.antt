@@ -1,0 +1,26 @@
+use Rattle.std.proofs.Common.{◌+◌, subst, arith, inr, refl}
+use Rattle.spectro_game.specs.Pairs.{size}
+use Rattle.spectro_pairs.specs.Limits.{IsPastLimit}
+use Rattle.spectro.proofs.Sized.{past_limit, reached_compared}
+use Rattle.spectro.proofs.commands.size.size_of.Goals as goal
+
+pub returns-in-Ok-clause-ok : goal.returns-in-Ok-clause-ok
+returns-in-Ok-clause-ok c =
+    let explored = c.in-Ok.ensures.explored in
+    let same =
+    reached_compared c.args.left.now c.args.right.now c.in_ok-both.both c.initial.result (c.states.result + c.initial-2.result) c.in-Ok.arena.pairs c.in_ok-both.ensures c.initial.ensures.value (omega (arith, c.states.ensures.value, c.initial-2.ensures.value)) in
+    record {
+      pairs = c.in-Ok.arena.pairs;
+      compared = rw (← same) explored.reached;
+      counted = c.pair_count.ensures.value;
+      sized = c.size.ensures.value;
+      within = omega (arith, c.size.ensures.value, c.in-Ok.ensures.size);
+    }
+
+pub returns-in-Err-TooLarge-clause-stopped : goal.returns-in-Err-TooLarge-clause-stopped
+returns-in-Err-TooLarge-clause-stopped c =
+    inr (
+      refl,
+      past_limit c.args.left.now c.args.right.now c.in_ok-both.both c.initial.result (c.states.result + c.initial-2.result) c.args.limit c.in-Err-TooLarge.field-0-0 c.in_ok-both.ensures c.initial.ensures.value (omega (arith, c.states.ensures.value, c.initial-2.ensures.value))
+          (λ pairs reached. subst (λ e. IsPastLimit e c.args.limit (size pairs)) c.in-Err-TooLarge.field-0-is (c.in-Err-TooLarge.ensures.limit pairs reached)),
+    )
