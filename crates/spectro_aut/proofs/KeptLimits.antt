@@ -9,9 +9,8 @@ use Rattle.std.proofs.lemmas.List.Elements.{All-nil, All-push, Contains-append_l
 use Rattle.std.proofs.lemmas.List.Sums.{take_while-cons}
 use Rattle.spectro_io.specs.Lines.{first_line, lines_of, without_cr}
 use Rattle.spectro_io.specs.Blanks.{trimmed}
-use Rattle.spectro_spec.specs.System.{System, Step}
+use Rattle.spectro_spec.specs.System.{System, Step, IsLabel}
 use Rattle.spectro_spec.proofs.Members.{Contains-cases, Contains-none}
-use Rattle.spectro_lts.specs.Labels.{IsLabel}
 use Rattle.spectro_aut.specs.Grammar.{Before, Follow, Gives, IsText, Reading, behind, start, steps, skipped, header, step, nothing_before}
 use Rattle.spectro_aut.specs.RoundTrip.{KeepsLimits}
 use Rattle.spectro_aut.proofs.Steps.{few_labels, label-one_line, trimmed-one_line}

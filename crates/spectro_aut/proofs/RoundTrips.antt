@@ -6,8 +6,8 @@ use Rattle.std.specs.Str.{bytes_eq, IsUtf8}
 use Rattle.std.proofs.lemmas.List.Elements.{All-head, All-tail}
 use Rattle.spectro_io.specs.Blanks.{trimmed}
 use Rattle.spectro_io.specs.Lines.{first_line, lines_of}
-use Rattle.spectro_spec.specs.System.{System, Step}
-use Rattle.spectro_lts.specs.Labels.{labels_of, IsLabel}
+use Rattle.spectro_spec.specs.System.{System, Step, IsLabel}
+use Rattle.spectro_lts.specs.Labels.{labels_of}
 use Rattle.spectro_lts.proofs.LabelLaws.{labels_of-push, length-labels_of, list_any-labels_of}
 use Rattle.spectro_aut.specs.Grammar.{IsHeader, IsStepLine, IsWithinLimits, IsLabelTooMany, Reading, start, steps, Gives, Before, nothing_before, behind, Follow}
 use Rattle.spectro_aut.specs.RoundTrip.{KeepsLimits, WrittenTextsAreRead}

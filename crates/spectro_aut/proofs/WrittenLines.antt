@@ -11,8 +11,7 @@ use Rattle.std.proofs.lemmas.Str.{IsUtf8-append, IsUtf8-from_ascii}
 use Rattle.spectro_io.specs.Blanks.{is_blank, trimmed}
 use Rattle.spectro_io.specs.Lines.{without_cr}
 use Rattle.spectro_io.proofs.Blanks.{trimmed_core, trimmed-quoted}
-use Rattle.spectro_spec.specs.System.{System, Step}
-use Rattle.spectro_lts.specs.Labels.{IsLabel}
+use Rattle.spectro_spec.specs.System.{System, Step, IsLabel}
 use Rattle.spectro_aut.specs.Fields.{IsLabelField}
 use Rattle.spectro_aut.specs.Grammar.{IsHeader, IsTransition, IsStepLine}
 use Rattle.spectro_aut.specs.Written.{header_text, step_text}

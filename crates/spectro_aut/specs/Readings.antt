@@ -1,7 +1,7 @@
 -- What the lines so far have given, as the code has it.
 use Rattle.std.specs.Prelude.{◌≡◌, ◌≤◌, ◌<◌, [], ◌∷◌, ◌++◌, length, Option, None, Some, Result, Ok, Err}
-use Rattle.spectro_spec.specs.System.{System, Step}
-use Rattle.spectro_lts.specs.Labels.{labels_of, IsLabel}
+use Rattle.spectro_spec.specs.System.{System, Step, IsLabel}
+use Rattle.spectro_lts.specs.Labels.{labels_of}
 use Rattle.spectro_aut.specs.Grammar.{Reading, start, steps}
 use Rattle.spectro_aut.specs.declared.error.AutKind.{AutKind}
 use Rattle.spectro_aut.specs.declared.header.Header.{Header}

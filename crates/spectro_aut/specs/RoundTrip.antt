@@ -1,8 +1,8 @@
 -- A system that is written is read back.
 use Rattle.std.specs.Prelude.{ℕ, ◌≤◌, List, length, All}
 use Rattle.std.specs.Str.{IsUtf8}
-use Rattle.spectro_spec.specs.System.{System, IsWhole}
-use Rattle.spectro_lts.specs.Labels.{labels_of, IsLabel}
+use Rattle.spectro_spec.specs.System.{System, IsWhole, IsLabel}
+use Rattle.spectro_lts.specs.Labels.{labels_of}
 use Rattle.spectro_aut.specs.Grammar.{IsText}
 use Rattle.spectro_aut.specs.Written.{text_of}
 

@@ -1,8 +1,7 @@
 -- Sheets: formulas whose parts are shared. Each node names nodes before it, and stands for the formula that it unfolds to.
 use Rattle.std.specs.Prelude.{ℕ, ◌≡◌, ◌<◌, ◌⊎◌, true, false, List, [], ◌∷◌, ◌++◌, slice_get, slice_index_or, Some, All, fold, if◌then◌else◌}
-use Rattle.spectro_spec.specs.System.{Label}
+use Rattle.spectro_spec.specs.System.{Label, IsLabel}
 use Rattle.spectro_spec.specs.Formula.{Formula, Clauses, see, all, no_clauses, plus, minus}
-use Rattle.spectro_lts.specs.Labels.{IsLabel}
 use Rattle.spectro_hml.specs.declared.node.Clause.{Clause}
 
 -- an observation before the formula of a node, or a conjunction of clauses, each the sign and the number of a node

@@ -1,5 +1,5 @@
 ghost use Rattle.std.specs.Prelude.{◌≡◌, ◌<◌, ◌==◌, [], ◌∷◌, ◌++◌, length, slice_get, Some, All, IfOk, OnErr, OnOk};
-ghost use Rattle.spectro_lts.specs.Labels.{IsLabel};
+ghost use Rattle.spectro_spec.specs.System.{IsLabel};
 ghost use Rattle.spectro_hml.specs.Nodes.{node_shown};
 ghost use Rattle.spectro_hml.specs.Sheets.{ClausesRise, IsNodeAt, IsSheet, all_node, see_node};
 

@@ -11,8 +11,7 @@ use Rattle.std.proofs.lemmas.List.Elements.{All-nil, All-cons, All-head, All-tai
 use Rattle.std.proofs.lemmas.List.Folds.{list_any_none}
 use Rattle.std.proofs.lemmas.List.Sums.{fails_before_first, passes_at_first}
 use Rattle.std.proofs.lemmas.Str.{IsUtf8-drop, IsCharBoundary-start}
-use Rattle.spectro_spec.specs.System.{Label}
-use Rattle.spectro_lts.specs.Labels.{IsLabel}
+use Rattle.spectro_spec.specs.System.{Label, IsLabel}
 use Rattle.spectro_io.specs.Blanks.{skip_blanks}
 use Rattle.spectro_io.specs.LineReaders.{has_line_feed}
 use Rattle.spectro_io.specs.QuotedLabels.{is_escaped, escaped, IsQuoted}

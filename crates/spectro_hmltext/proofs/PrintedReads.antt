@@ -1,9 +1,8 @@
 -- What is printed of a formula is read as that formula.
 use Rattle.std.proofs.Common.{◌≡◌, ℕ, ◌+◌, ◌≤◌, List, [], ◌∷◌, ◌++◌, refl, sym, ap, subst, arith, append_assoc, append-nil}
 use Rattle.std.specs.Prelude.{codes}
-use Rattle.spectro_spec.specs.System.{Label}
+use Rattle.spectro_spec.specs.System.{Label, IsLabel}
 use Rattle.spectro_spec.specs.Formula.{Formula, Clauses, see, all, no_clauses, plus, minus}
-use Rattle.spectro_lts.specs.Labels.{IsLabel}
 use Rattle.spectro_io.specs.QuotedLabels.{escaped}
 use Rattle.spectro_hmltext.specs.declared.token.Token.TheVariants.{Truth, And, Less}
 use Rattle.spectro_hmltext.specs.FormulaTexts.{StandsLabel, StandsFormula, StandsConjunction, StandOthers}

@@ -9,7 +9,7 @@ use Rattle.std.proofs.lemmas.List.Elements.{All-weaker, All-head, All-tail}
 use Rattle.spectro_io.specs.Blanks.{IsApart}
 use Rattle.spectro_io.specs.QuotedLabels.{is_escaped, escaped, is_closed_behind, IsQuoted}
 use Rattle.spectro_io.proofs.Decimals.{digits_of, is_number-decimal}
-use Rattle.spectro_lts.specs.Labels.{IsLabel}
+use Rattle.spectro_spec.specs.System.{IsLabel}
 use Rattle.spectro_hml.specs.declared.node.Clause.{Clause}
 use Rattle.spectro_hml.specs.Sheets.{SheetNode, see_node, all_node, IsNodeAt}
 use Rattle.spectro_hmltext.specs.SheetTexts.{clause_text, node_text}

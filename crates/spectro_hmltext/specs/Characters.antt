@@ -1,8 +1,7 @@
 -- Where a label in quotes ends, behind its opening quote, character by character.
 use Rattle.std.specs.Prelude.{ℕ, ◌≡◌, ◌≢◌, ◌+◌, ◌<◌, ◌≤◌, List, ◌∷◌, ◌++◌, length, Contains}
 use Rattle.std.specs.Str.{IsUtf8}
-use Rattle.spectro_spec.specs.System.{Label}
-use Rattle.spectro_lts.specs.Labels.{IsLabel}
+use Rattle.spectro_spec.specs.System.{Label, IsLabel}
 use Rattle.spectro_io.specs.QuotedLabels.{escaped}
 use Rattle.spectro_hmltext.specs.declared.error.TextKind.{TextKind}
 use Rattle.spectro_hmltext.specs.declared.error.TextKind.TheVariants.{BadLabel}

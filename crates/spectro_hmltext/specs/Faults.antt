@@ -1,9 +1,8 @@
 -- The first fault of a formula's text, from the left: so far the text is one of a formula, and then it goes on so. What is left of the text from the fault on says where it is.
 use Rattle.std.specs.Prelude.{ℕ, ◌≡◌, ◌≢◌, ◌+◌, ◌<◌, ◌≤◌, ◌⊎◌, ◌&&◌, not, nat_lt, Bool, false, List, [], ◌∷◌, ◌++◌, length}
 use Rattle.std.specs.List.{before_first}
-use Rattle.spectro_spec.specs.System.{Label}
+use Rattle.spectro_spec.specs.System.{Label, IsLabel}
 use Rattle.spectro_spec.specs.Formula.{Formula}
-use Rattle.spectro_lts.specs.Labels.{IsLabel}
 use Rattle.spectro_io.specs.Blanks.{skip_blanks}
 use Rattle.spectro_io.specs.QuotedLabels.{escaped}
 use Rattle.spectro_hmltext.specs.declared.error.ParseError.{ParseError}

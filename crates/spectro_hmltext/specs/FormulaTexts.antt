@@ -3,9 +3,8 @@
 --   CLAUSE is FORMULA, or not FORMULA
 -- with blanks between tokens and at both ends. This shape of Hennessy-Milner logic is this project's own.
 use Rattle.std.specs.Prelude.{ℕ, ◌≡◌, ◌+◌, ◌≤◌, Bool, true, false, List, ◌∷◌, ◌++◌, length}
-use Rattle.spectro_spec.specs.System.{Label}
+use Rattle.spectro_spec.specs.System.{Label, IsLabel}
 use Rattle.spectro_spec.specs.Formula.{Formula, Clauses, see, all, no_clauses, plus, minus}
-use Rattle.spectro_lts.specs.Labels.{IsLabel}
 use Rattle.spectro_io.specs.Blanks.{skip_blanks}
 use Rattle.spectro_io.specs.QuotedLabels.{escaped}
 use Rattle.spectro_hmltext.specs.declared.token.Token.TheVariants.{Truth, And, Not, Less, Greater, OpenBrace, CloseBrace, Comma, End}

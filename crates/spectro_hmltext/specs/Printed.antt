@@ -1,8 +1,7 @@
 -- The text that is printed of a formula: no blanks, but one space behind `not`.
 use Rattle.std.specs.Prelude.{ℕ, ◌≡◌, ◌+◌, ◌<◌, ◌≤◌, max, List, [], ◌∷◌, ◌++◌, length, codes}
-use Rattle.spectro_spec.specs.System.{Label}
+use Rattle.spectro_spec.specs.System.{Label, IsLabel}
 use Rattle.spectro_spec.specs.Formula.{Formula, Clauses, see, all, no_clauses, plus, minus}
-use Rattle.spectro_lts.specs.Labels.{IsLabel}
 use Rattle.spectro_io.specs.QuotedLabels.{escaped}
 use Rattle.spectro_hmltext.specs.declared.printer.Printed.{Printed}
 use Rattle.spectro_hmltext.specs.declared.printer.Printed.TheVariants.{Text, TooLong}

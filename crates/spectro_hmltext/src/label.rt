@@ -3,7 +3,7 @@ ghost use Rattle.spectro_io.specs.Batches.{Puts};
 ghost use Rattle.spectro_io.specs.Bytes.{WritesWhole};
 ghost use Rattle.spectro_io.specs.Faults.{HasCause};
 ghost use Rattle.spectro_io.specs.QuotedLabels.{is_escaped, escaped};
-ghost use Rattle.spectro_lts.specs.Labels.{IsLabel};
+ghost use Rattle.spectro_spec.specs.System.{IsLabel};
 ghost use Rattle.spectro_hmltext.specs.Printed.{label_text};
 
 use spectro_io::{Batch, Failed, Sink};

@@ -10,7 +10,8 @@ use Rattle.std.proofs.lemmas.Option.{slice_get-map, slice_get_within, get_or_fro
 use Rattle.std.proofs.lemmas.Slice.Eq.{bytes_eq-Decides}
 use Rattle.indexmap.specs.IndexSet.{insert_key}
 use Rattle.spectro_spec.specs.System as spec
-use Rattle.spectro_lts.specs.Labels.{labels_of, IsLabel, IsStepAt}
+use Rattle.spectro_spec.specs.System.{IsLabel}
+use Rattle.spectro_lts.specs.Labels.{labels_of, IsStepAt}
 use Rattle.spectro_lts.specs.Numbered.{label_at, labelled, steps_of, IsNumbered, GivesNumber}
 use Rattle.spectro_lts.specs.declared.step.Step.{Step}
 use Rattle.spectro_lts.proofs.LabelLaws.{found_label, list_any-map, list_any-labels_of, labels_of-push}

@@ -1,5 +1,5 @@
 -- The labels of steps by number.
-use Rattle.std.specs.Prelude.{◌≡◌, ◌≤◌, ℕ, List, [], length, map, slice_get, slice_index_or, Some, Contains}
+use Rattle.std.specs.Prelude.{◌≡◌, ℕ, List, [], map, slice_get, slice_index_or, Some}
 use Rattle.std.specs.Str.{bytes_eq}
 use Rattle.indexmap.specs.IndexSet.{insert_all}
 use Rattle.spectro_spec.specs.System.{Label, Step}
@@ -11,11 +11,6 @@ labels_of steps = insert_all bytes_eq [] (map (λ step. step.label) steps)
 -- the label of the number; empty where there is none
 abbrev pub label_of : List Step → ℕ → Label
 label_of steps label_no = slice_index_or (labels_of steps) label_no []
-
--- a label has at most 8192 bytes, and none of them ends a line
-pub record IsLabel (text : Label) : Type 0 where
-  pub short : length text ≤ 8192
-  pub one_line : ¬ Contains text 10
 
 -- the step at this place has these states, and the label of this number
 pub record IsStepAt (steps : List Step) (place source label_no target : ℕ) : Type 0 where

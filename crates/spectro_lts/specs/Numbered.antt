@@ -5,7 +5,8 @@ use Rattle.std.specs.Option.{option_map_or}
 use Rattle.std.specs.Str.{bytes_eq}
 use Rattle.indexmap.specs.IndexSet.{insert_key}
 use Rattle.spectro_spec.specs.System as spec
-use Rattle.spectro_lts.specs.Labels.{labels_of, IsLabel}
+use Rattle.spectro_spec.specs.System.{IsLabel}
+use Rattle.spectro_lts.specs.Labels.{labels_of}
 use Rattle.spectro_lts.specs.declared.step.Step.{Step}
 
 -- the label of this number

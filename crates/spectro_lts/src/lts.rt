@@ -1,7 +1,7 @@
 ghost use Rattle.std.specs.Prelude.{◌≡◌, ◌<◌, ◌≤◌, length, position, slice_get, Some};
 ghost use Rattle.std.specs.Str.{bytes_eq};
-ghost use Rattle.spectro_spec.specs.System.{IsWhole};
-ghost use Rattle.spectro_lts.specs.Labels.{labels_of, IsLabel, IsStepAt};
+ghost use Rattle.spectro_spec.specs.System.{IsWhole, IsLabel};
+ghost use Rattle.spectro_lts.specs.Labels.{labels_of, IsStepAt};
 
 use crate::Step;
 use crate::table::Table;

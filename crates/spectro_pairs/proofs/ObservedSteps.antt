@@ -7,42 +7,10 @@ use Rattle.std.proofs.lemmas.Bool.{true≢false}
 use Rattle.std.proofs.lemmas.List.{length-map}
 use Rattle.std.proofs.lemmas.Slice.Eq.{bytes_eq-Decides}
 use Rattle.spectro_spec.specs.System.{Label, Step, System, targets_of, post}
-use Rattle.spectro_spec.specs.LabelOrder.{is_before_text, placed_label, labels_from}
-use Rattle.spectro_spec.proofs.LabelOrder.{IsBeforeFirst, AreInOrder, before-chain, before-not_itself, before-neither}
+use Rattle.spectro_spec.specs.LabelOrder.{is_before_text, labels_from}
+use Rattle.spectro_spec.proofs.LabelOrder.{IsBeforeFirst, AreInOrder, before-chain, before-not_itself, labels_from-in_order}
+use Rattle.spectro_spec.proofs.Rising.{length-rising}
 use Rattle.spectro_game.specs.Pairs.{Pair, observed, observed_under}
-use Rattle.spectro_lts.proofs.TablesCodes.{length-rising}
-
--- ---- the labels of a state are in order
-above-placed : (low label : Label) (others : List Label) → is_before_text low label ≡ true → IsBeforeFirst low others → IsBeforeFirst low (placed_label label others)
-above-placed low label [] below h = below
-above-placed low label (other ∷ others) below h = go (is_before_text label other) (bytes_eq label other)
-  where
-    go : (before same : Bool) → IsBeforeFirst low (cond before (label ∷ other ∷ others) (cond same (other ∷ others) (other ∷ placed_label label others)))
-    go true same = below
-    go false true = h
-    go false false = h
-
-ordered-placed : (label : Label) (others : List Label) → AreInOrder others → AreInOrder (placed_label label others)
-ordered-placed label [] h = (tt, tt)
-ordered-placed label (other ∷ others) h = go (is_before_text label other) (bytes_eq label other) refl refl (ordered-placed label others h.1)
-  where
-    later : (after : Bool) → is_before_text label other ≡ false → bytes_eq label other ≡ false → is_before_text other label ≡ after → after ≡ true
-    later true before same is = refl
-    later false before same is = absurd (true≢false (sym ((bytes_eq-Decides label other).1 (before-neither label other before is)) ∙ same))
-
-    go : (before same : Bool) → is_before_text label other ≡ before → bytes_eq label other ≡ same → AreInOrder (placed_label label others)
-        → AreInOrder (cond before (label ∷ other ∷ others) (cond same (other ∷ others) (other ∷ placed_label label others)))
-    go true same is_before is_same rest = (is_before, h)
-    go false true is_before is_same rest = h
-    go false false is_before is_same rest = (above-placed other label others (later (is_before_text other label) is_before is_same refl) h.0, rest)
-
-ordered-labels : (steps : List Step) (p : ℕ) → AreInOrder (labels_from steps p)
-ordered-labels [] p = tt
-ordered-labels (step ∷ steps) p = go (step.source == p) (ordered-labels steps p)
-  where
-    go : (here : Bool) → AreInOrder (labels_from steps p) → AreInOrder (cond here (placed_label step.label (labels_from steps p)) (labels_from steps p))
-    go true rest = ordered-placed step.label (labels_from steps p) rest
-    go false rest = rest
 
 -- ---- a step is counted under at most one of labels in order
 hits : List Label → Label → ℕ
@@ -118,4 +86,4 @@ length-under system x (label ∷ labels) =
 
 pub observed-steps : (system : System) (x : Pair) → length (observed system x) ≤ length system.steps
 observed-steps system x =
-    omega (arith, length-under system x (labels_from system.steps x.state), total-steps x.state (labels_from system.steps x.state) system.steps (ordered-labels system.steps x.state))
+    omega (arith, length-under system x (labels_from system.steps x.state), total-steps x.state (labels_from system.steps x.state) system.steps (labels_from-in_order system.steps x.state))

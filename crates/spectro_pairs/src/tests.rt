@@ -1,5 +1,5 @@
 ghost use Rattle.std.specs.Prelude.{◌≡◌, ◌<◌, ◌≤◌, ◌+◌, ◌*◌, length, IfOk};
-ghost use Rattle.spectro_lts.specs.Labels.{IsLabel};
+ghost use Rattle.spectro_spec.specs.System.{IsLabel};
 
 use crate::{Arena, ExploreError, Observation, explore};
 use spectro_lts::{Draft, Lts};

@@ -6,12 +6,12 @@ use Rattle.std.specs.declared.cmp.Ordering.{Ordering}
 use Rattle.std.specs.declared.cmp.Ordering.TheVariants.{Less, Equal, Greater}
 use Rattle.std.specs.Cmp.Lexicographic.{slice_cmp, nat_list_cmp_total}
 use Rattle.std.specs.FinMap.{nat_cmp-IsAntisymmetric, slice_cmp-IsAntisymmetric}
-use Rattle.std.proofs.lemmas.Bool.{eq-eqb, true≢false}
+use Rattle.std.proofs.lemmas.Bool.{eq-eqb, eqb-true, true≢false}
 use Rattle.std.proofs.lemmas.Slice.Eq.{bytes_eq-Decides}
 use Rattle.spectro_spec.specs.System.{Label, Step}
 use Rattle.spectro_spec.specs.LabelOrder.{is_before_text, placed_label, labels_from}
 use Rattle.spectro_spec.proofs.Members.{Contains-first, Contains-later, Contains-cases, Contains-none}
-use Rattle.spectro_spec.proofs.Membership.{Contains-first_is, Contains-map, Contains-filter}
+use Rattle.spectro_spec.proofs.Membership.{Contains-first_is, Contains-map, Contains-map_cases, Contains-filter, Contains-filter_cases}
 
 -- ---- the order of bytes
 pub before-is : (text other : List ℕ) → is_before_text text other ≡ is_lt (slice_cmp nat_cmp text other)
@@ -137,6 +137,13 @@ Contains-labels_from steps p label t member =
     Contains-labels_from_has steps p label
     (Contains-map (λ (step : Step). step.label) (filter (λ (step : Step). step.source == p) steps) step (Contains-filter (λ (step : Step). step.source == p) steps step member (eq-eqb p p refl)))
 
+pub labels_from-steps : (steps : List Step) (p : ℕ) (label : Label) → Contains (labels_from steps p) label → (t : ℕ) × Contains steps (record { source = p; label = label; target = t })
+labels_from-steps steps p label member =
+    let found = Contains-map_cases (λ (step : Step). step.label) (filter (λ (step : Step). step.source == p) steps) label (Contains-labels_from_cases steps p label member) in
+    let kept = Contains-filter_cases (λ (step : Step). step.source == p) steps found.0 found.1 in
+    let from : found.0.source ≡ p = eqb-true found.0.source p kept.1 in
+    (found.0.target, subst (λ x. Contains steps x) (λ i. record { source = from i; label = found.2 i; target = found.0.target }) kept.0)
+
 -- ---- labels in order
 abbrev pub IsBeforeFirst : Label → List Label → Type 0
 IsBeforeFirst label [] = Unit {0}
@@ -171,7 +178,7 @@ placed_label-in_order label (other ∷ others) h = go (is_before_text label othe
     go false false is_before is_same rest =
         (placed_label-is_above other label others (later (is_before_text other label) is_before is_same refl) h.0, rest)
 
-labels_from-in_order : (steps : List Step) (p : ℕ) → AreInOrder (labels_from steps p)
+pub labels_from-in_order : (steps : List Step) (p : ℕ) → AreInOrder (labels_from steps p)
 labels_from-in_order [] p = tt
 labels_from-in_order (step ∷ steps) p = go (step.source == p) (labels_from-in_order steps p)
   where
@@ -179,7 +186,7 @@ labels_from-in_order (step ∷ steps) p = go (step.source == p) (labels_from-in_
     go true rest = placed_label-in_order step.label (labels_from steps p) rest
     go false rest = rest
 
-comes_first : (label : Label) (labels : List Label) → AreInOrder (label ∷ labels) → (x : Label) → Contains labels x → is_before_text label x ≡ true
+pub comes_first : (label : Label) (labels : List Label) → AreInOrder (label ∷ labels) → (x : Label) → Contains labels x → is_before_text label x ≡ true
 comes_first label [] h x member = absurd (Contains-none x member)
 comes_first label (other ∷ labels) h x member = elim (Contains-cases other labels x member) [
   | inl e ↦ subst (λ y. is_before_text label y ≡ true) e h.0

@@ -1,10 +1,15 @@
 -- Labelled transition systems. A state is a number, a label a text as its bytes.
-use Rattle.std.specs.Prelude.{ℕ, ◌+◌, ◌<◌, ◌==◌, ◌&&◌, nat_lt, List, [], ◌∷◌, ◌++◌, map, filter, All, Contains, if◌then◌else◌}
+use Rattle.std.specs.Prelude.{ℕ, ◌+◌, ◌<◌, ◌≤◌, ◌==◌, ◌&&◌, nat_lt, List, [], ◌∷◌, ◌++◌, length, map, filter, All, Contains, if◌then◌else◌}
 use Rattle.std.specs.List.{list_any}
 use Rattle.std.specs.Str.{bytes_eq}
 
 abbrev pub Label : Type 0
 Label = List ℕ
+
+-- the label has at most 8192 bytes, and none of them ends a line
+pub record IsLabel (label : Label) : Type 0 where
+  pub short : length label ≤ 8192
+  pub one_line : ¬ Contains label 10
 
 -- under its label a step leads from its source to its target
 pub record Step : Type 0 where

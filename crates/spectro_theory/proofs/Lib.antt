@@ -1,5 +1,6 @@
 pub mod PriceOrder
 pub mod Successors
+pub mod StepLabels
 pub mod Updates
 pub mod Conjunctions
 pub mod Satisfaction

@@ -1,7 +1,6 @@
 -- Laws of updates, formulas and lists of prices.
-use Rattle.std.specs.Prelude.{ℕ, ◌≡◌, ◌≤◌, ◌↔◌, List, Contains, ◌++◌, ◌∷◌, []}
-use Rattle.std.specs.List.Sorted.{IsStrictlyIncreasing}
-use Rattle.spectro_spec.specs.System.{Label, System, HasStep, post}
+use Rattle.std.specs.Prelude.{◌≡◌, ◌≤◌, ◌↔◌, List, Contains, ◌++◌, ◌∷◌, []}
+use Rattle.spectro_spec.specs.System.{Label}
 use Rattle.spectro_spec.specs.Formula.{Formula}
 use Rattle.spectro_spec.specs.Weighing.{Weighing, weight_of}
 use Rattle.spectro_spec.specs.Price.{Price, IsAtMost}
@@ -47,12 +46,3 @@ MinimalElementsAreByCover = (es fs : List Price) → ((e : Price) → Covers es 
 -- one more at the end of a list is inserted into its minimal elements
 abbrev pub MinimalElementsGrow : Type 0
 MinimalElementsGrow = (es : List Price) (e : Price) → minimal_elements (es ++ e ∷ []) ≡ inserted e (minimal_elements es)
-
--- the successors of a set rise, and are the targets of the steps under the label from its members
-pub record AreSuccessors (system : System) (qs : List ℕ) (label : Label) (ts : List ℕ) : Type 0 where
-  pub rises : IsStrictlyIncreasing ts
-  pub targets : (t : ℕ) → Contains ts t → (q : ℕ) × Contains qs q × HasStep system q label t
-  pub has : (q t : ℕ) → Contains qs q → HasStep system q label t → Contains ts t
-
-abbrev pub PostHasTheSuccessors : Type 0
-PostHasTheSuccessors = (system : System) (qs : List ℕ) (label : Label) → AreSuccessors system qs label (post system qs label)

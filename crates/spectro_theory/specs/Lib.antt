@@ -1,5 +1,6 @@
 pub mod Leaves
 pub mod Splits
+pub mod LawsOfSystems
 pub mod LawsOfPrices
 pub mod LawsOfNotions
 pub mod Reaching

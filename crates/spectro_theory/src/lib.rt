@@ -6,6 +6,7 @@ mod notions;
 mod pairs;
 mod prices;
 mod steps;
+mod systems;
 
 pub use generations::{
     late_generations_are_exact, late_generations_stay, marks_are_by_change,
@@ -27,7 +28,7 @@ pub use pairs::{
 };
 pub use prices::{
     inverses_are_least, minimal_elements_are_by_cover, minimal_elements_are_minimal,
-    minimal_elements_are_one, minimal_elements_grow, others_are_no_deeper, post_has_the_successors,
+    minimal_elements_are_one, minimal_elements_grow, others_are_no_deeper,
     unit_weights_change_nothing,
 };
 pub use steps::{
@@ -35,3 +36,4 @@ pub use steps::{
     backward_steps_read_the_followers, observations_are_exact, self_covering_tables_are_complete,
     self_covering_tables_are_exact, splits_are_exact, wins_are_afforded,
 };
+pub use systems::{labels_from_are_those_of_the_steps, post_has_the_successors};

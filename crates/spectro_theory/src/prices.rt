@@ -5,7 +5,6 @@ ghost use Rattle.spectro_theory.specs.LawsOfPrices.{
   MinimalElementsAreOne,
   MinimalElementsGrow,
   OthersAreNoDeeper,
-  PostHasTheSuccessors,
   UnitWeightsChangeNothing,
 };
 
@@ -42,9 +41,4 @@ pub fn minimal_elements_are_by_cover()
 /// One more at the end of a list is inserted into its minimal elements.
 pub fn minimal_elements_grow()
     ensures { MinimalElementsGrow }
-{}
-
-/// The successors of a set rise, and are exactly the targets of the steps from its members.
-pub fn post_has_the_successors()
-    ensures { PostHasTheSuccessors }
 {}

@@ -1,5 +1,5 @@
 use Rattle.spectro_theory.proofs.Successors.{post-AreSuccessors}
-use Rattle.spectro_theory.proofs.prices.post_has_the_successors.Goals as goal
+use Rattle.spectro_theory.proofs.systems.post_has_the_successors.Goals as goal
 
 pub returns : goal.returns
 returns c = post-AreSuccessors
