@@ -2,22 +2,13 @@
 use Rattle.std.specs.Prelude.{ℕ, ◌≡◌, ◌<◌, ◌⊎◌, true, false, List, [], ◌∷◌, ◌++◌, slice_get, slice_index_or, Some, All, fold, if◌then◌else◌}
 use Rattle.spectro_spec.specs.System.{Label, IsLabel}
 use Rattle.spectro_spec.specs.Formula.{Formula, Clauses, see, all, no_clauses, plus, minus}
+use Rattle.spectro_hml.specs.Clauses.{ClausesRise}
 use Rattle.spectro_hml.specs.declared.node.Clause.{Clause}
 
 -- an observation before the formula of a node, or a conjunction of clauses, each the sign and the number of a node
 pub data SheetNode : Type 0 where
   see_node : Label → ℕ → SheetNode
   all_node : List Clause → SheetNode
-
--- by node, and for one node the positive clause comes first
-abbrev pub IsBeforeClause : Clause → Clause → Type 0
-IsBeforeClause first second = (first.node < second.node) ⊎ ((first.node ≡ second.node) × (first.positive ≡ true) × (second.positive ≡ false))
-
--- the clauses rise strictly
-abbrev pub ClausesRise : List Clause → Type 0
-ClausesRise [] = Unit {0}
-ClausesRise (clause ∷ []) = Unit {0}
-ClausesRise (clause ∷ next ∷ clauses) = IsBeforeClause clause next × ClausesRise (next ∷ clauses)
 
 -- the node may stand at this place: it names nodes before it alone
 abbrev pub IsNodeAt : ℕ → SheetNode → Type 0

@@ -1,7 +1,8 @@
 ghost use Rattle.std.specs.Prelude.{◌≡◌, ◌<◌, ◌==◌, [], ◌∷◌, ◌++◌, length, slice_get, Some, All, IfOk, OnErr, OnOk};
 ghost use Rattle.spectro_spec.specs.System.{IsLabel};
 ghost use Rattle.spectro_hml.specs.Nodes.{node_shown};
-ghost use Rattle.spectro_hml.specs.Sheets.{ClausesRise, IsNodeAt, IsSheet, all_node, see_node};
+ghost use Rattle.spectro_hml.specs.Clauses.{ClausesRise};
+ghost use Rattle.spectro_hml.specs.Sheets.{IsNodeAt, IsSheet, all_node, see_node};
 
 use crate::node::{Clause, Node};
 use smallvec::SmallVec;

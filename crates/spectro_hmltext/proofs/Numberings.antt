@@ -5,7 +5,8 @@ use Rattle.std.proofs.lemmas.List.{get_or_at}
 use Rattle.std.proofs.lemmas.List.Elements.{All-nil, All-cons, All-weaker}
 use Rattle.spectro_spec.specs.Formula.{Formula, Clauses, see, all, no_clauses, plus, minus}
 use Rattle.spectro_hml.specs.declared.node.Clause.{Clause}
-use Rattle.spectro_hml.specs.Sheets.{SheetNode, see_node, all_node, ClausesRise, formula_at, clauses_of, formula_of_node, formulas_of, unfolded}
+use Rattle.spectro_hml.specs.Clauses.{ClausesRise}
+use Rattle.spectro_hml.specs.Sheets.{SheetNode, see_node, all_node, formula_at, clauses_of, formula_of_node, formulas_of, unfolded}
 use Rattle.spectro_hml.proofs.Unfoldings.{length-formulas_of, formulas_of-push, unfolded-push, clauses_of-plus, clauses_of-minus}
 use Rattle.spectro_hmltext.specs.Numbering.{size, size_of_clauses, number_of, numbered, nodes_of, nodes_of_clauses}
 

@@ -8,7 +8,8 @@ use Rattle.spectro_spec.specs.Formula.{Formula, Clauses, see, all, no_clauses, p
 use Rattle.spectro_io.specs.QuotedLabels.{escaped}
 use Rattle.spectro_io.proofs.Utf8Cuts.{utf8_behind, utf8-skip_blanks}
 use Rattle.spectro_hml.specs.declared.node.Clause.{Clause}
-use Rattle.spectro_hml.specs.Sheets.{SheetNode, all_node, see_node, ClausesRise, unfolded}
+use Rattle.spectro_hml.specs.Clauses.{ClausesRise}
+use Rattle.spectro_hml.specs.Sheets.{SheetNode, all_node, see_node, unfolded}
 use Rattle.spectro_hmltext.specs.declared.error.TextKind.{TextKind}
 use Rattle.spectro_hmltext.specs.declared.token.Token.TheVariants.{Truth, And, Not, Less, Greater, OpenBrace, CloseBrace, Comma, End}
 use Rattle.spectro_hmltext.specs.Tokens.{Begins, token_of}

@@ -4,7 +4,8 @@ use Rattle.spectro_io.specs.Blanks.{AreBlanks, IsApart}
 use Rattle.spectro_io.specs.Numbers.{is_number, number_value}
 use Rattle.spectro_io.specs.QuotedLabels.{is_closed_behind, IsQuoted}
 use Rattle.spectro_hml.specs.declared.node.Clause.{Clause}
-use Rattle.spectro_hml.specs.Sheets.{SheetNode, see_node, all_node, ClausesRise}
+use Rattle.spectro_hml.specs.Clauses.{ClausesRise}
+use Rattle.spectro_hml.specs.Sheets.{SheetNode, see_node, all_node}
 
 -- blanks, if any, then the word, and behind it nothing, or a blank and what follows
 pub record BeginsWith (text word rest : List ℕ) : Type 0 where

@@ -1,6 +1,6 @@
 ghost use Rattle.std.specs.Prelude.{◌≡◌, ◌↔◌, ◌<◌, ℕ, All, List, length, IfErr, IfOk, IsTrue, MatchOption, OnErr, OnOk};
 ghost use Rattle.spectro_io.specs.Blanks.{IsApart};
-ghost use Rattle.spectro_hml.specs.Sheets.{ClausesRise, IsBeforeClause};
+ghost use Rattle.spectro_hml.specs.Clauses.{ClausesRise, IsBeforeClause};
 ghost use Rattle.spectro_hmltext.specs.NodeFaults.{IsRefused};
 ghost use Rattle.spectro_hmltext.specs.NodeLines.{BeginsQuoted, IsAppended, all_form, see_form};
 ghost use Rattle.spectro_hmltext.specs.NodeReading.{
@@ -14,7 +14,7 @@ ghost use Rattle.spectro_hmltext.specs.NodeReading.{
 };
 ghost use Rattle.spectro_hmltext.specs.declared.node_line.NodeError.TheVariants.{OutOfMemory};
 
-use spectro_hml::{Clause, Sheet};
+use spectro_hml::{Clause, Sheet, clauses_come_in_order};
 use spectro_io::{number, quoted_at, token_at, trim_start, unquoted};
 use std::alloc::{AllocError, Global};
 
@@ -210,7 +210,8 @@ fn are_below(clauses: &[Clause], limit: u64) -> bool
 fn is_before(first: Clause, second: Clause) -> bool
     ensures { IsTrue result ↔ IsBeforeClause first second }
 {
-    first.node < second.node || first.node == second.node && first.positive && !second.positive
+    clauses_come_in_order();
+    first < second
 }
 
 // Whether each clause comes before the next.

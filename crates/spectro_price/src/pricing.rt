@@ -16,7 +16,7 @@ pub const MAX_NODES: usize = 16_777_216;
 
 /// What the formula of each node costs, in order.
 pub fn prices(alloc: Global, sheet: &Sheet, weights: &Weights) -> Result<Vec<Energy>, AllocError>
-    requires few { length sheet.now ≤ 16777216 }
+    requires few { length sheet.now ≤ MAX_NODES }
     ensures value { IfOk result (λ found. prices_of found.items ≡ map (price weights.now) (formulas_of sheet.now)) }
 {
     let mut found = Vec::with_capacity(alloc, sheet.len())?;
@@ -30,7 +30,7 @@ pub fn prices(alloc: Global, sheet: &Sheet, weights: &Weights) -> Result<Vec<Ene
 // What the formula of a node costs, where these are the prices of the nodes before it.
 fn node_price(before: &[Energy], node: Node<'_>, weights: &Weights) -> Energy
     requires names { IsNodeAt (length before.now) (node_shown node) }
-    requires few { length before.now < 16777216 }
+    requires few { length before.now < MAX_NODES }
     requires low { AreLow (length before.now + 1) (prices_of before.now) }
     ensures value { price_of result.parts ≡ price_of_node weights.now (prices_of before.now) (node_shown node.entry) }
     ensures low { IsAtMost (price_of result.parts) (limit (length before.now + 2)) }
@@ -46,7 +46,7 @@ fn node_price(before: &[Energy], node: Node<'_>, weights: &Weights) -> Energy
 // What the conjunction of the clauses costs.
 fn conjunction_price(before: &[Energy], clauses: &[Clause]) -> Energy
     requires names { All (λ clause. clause.node < length before.now) clauses.now }
-    requires few { length before.now < 16777216 }
+    requires few { length before.now < MAX_NODES }
     requires low { AreLow (length before.now + 1) (prices_of before.now) }
     ensures value { price_of result.parts ≡ price_of_conjunction (map (priced_clause (prices_of before.now)) clauses.now) }
     ensures low { IsAtMost (price_of result.parts) (limit (length before.now + 2)) }

@@ -1,5 +1,5 @@
 use Rattle.std.proofs.Common.{length, ◌↔◌}
-use Rattle.spectro_hml.specs.Sheets.{ClausesRise}
+use Rattle.spectro_hml.specs.Clauses.{ClausesRise}
 use Rattle.spectro_hmltext.proofs.node_line.do_rise.Given as goal
 
 abbrev pub invariant-loop-rest : goal.invariant-loop-rest

@@ -1,7 +1,8 @@
 use Rattle.std.proofs.Common.{◌≡◌, ◌≢◌, ◌∙◌, inl, inr, ◌+◌, ◌<◌, ◌≤◌, [], ◌∷◌, ◌++◌, length, sym, ap, subst, arith, rules}
 use Rattle.std.specs.Prelude.{All, string_bytes}
 use Rattle.std.proofs.lemmas.Result.{err_from_is_err_and}
-use Rattle.spectro_hml.specs.Sheets.{ClausesRise, all_node, see_node}
+use Rattle.spectro_hml.specs.Clauses.{ClausesRise}
+use Rattle.spectro_hml.specs.Sheets.{all_node, see_node}
 use Rattle.spectro_hmltext.specs.declared.token.Token.{Token}
 use Rattle.spectro_hmltext.specs.declared.token.Token.TheVariants.{Truth, And, Less, Greater, OpenBrace, CloseBrace, Comma}
 use Rattle.spectro_hmltext.specs.Faults.{AreFaultyClauses, BeginsFormula, IsClauseFault, IsFormulaFault, IsLabelFault, IsMisplaced}
