@@ -167,56 +167,63 @@ mod tests {
     use super::Antichain;
     use spectro_energy::{Energy, Update};
     use std::alloc::AllocError;
+    use std::process::Abort;
 
-    const EARLY: Energy = Energy {
-        parts: [2, 2, 1, 1, 0, 0, 2],
-    };
+    fn holds(rt: &impl Abort, antichain: &Antichain, wanted: &[[u32; 7]]) {
+        assert_eq!(rt; antichain.len(), wanted.len());
+        for (k, parts) in wanted.iter().enumerate() {
+            assert_eq!(rt; antichain.item(k).parts, *parts, "at {k}");
+        }
+    }
 
-    const LATE: Energy = Energy {
-        parts: [2, 3, 0, 0, 1, 2, 2],
-    };
-
-    const ABOVE_LATE: Energy = Energy {
-        parts: [2, 3, 1, 1, 1, 2, 2],
-    };
-
-    const BELOW_BOTH: Energy = Energy {
-        parts: [2, 2, 0, 0, 0, 0, 0],
-    };
-
+    // worked by hand
     #[test]
     fn keeps_the_minimal_energies_in_order(rt: HostRuntime) -> Result<(), AllocError> {
         let mut minimal = Antichain::new(rt.alloc());
-        assert!(rt; minimal.is_empty());
-        assert!(rt; minimal.insert(LATE)?);
-        assert!(rt; minimal.insert(EARLY)?);
-        assert!(rt; !minimal.insert(ABOVE_LATE)?);
-        assert_eq!(rt; minimal.len(), 2);
-        assert_eq!(rt; minimal.item(0), EARLY);
-        assert_eq!(rt; minimal.item(1), LATE);
-        assert!(rt; minimal.covers(ABOVE_LATE));
-        assert!(rt; !minimal.covers(BELOW_BOTH));
-        assert!(rt; minimal.insert(BELOW_BOTH)?);
-        assert_eq!(rt; minimal.len(), 1);
-        assert_eq!(rt; minimal.item(0), BELOW_BOTH);
+        for (parts, is_new) in [
+            ([2, 3, 0, 0, 1, 2, 0], true),
+            ([2, 2, 1, 1, 0, 0, 0], true),
+            ([2, 3, 1, 1, 1, 2, 0], false),
+        ] {
+            assert_eq!(rt; minimal.insert(Energy { parts })?, is_new);
+        }
+        holds(
+            &rt,
+            &minimal,
+            &[[2, 2, 1, 1, 0, 0, 0], [2, 3, 0, 0, 1, 2, 0]],
+        );
+        let below_both = Energy {
+            parts: [2, 2, 0, 0, 0, 0, 0],
+        };
+        assert!(rt; minimal.insert(below_both)?);
+        holds(&rt, &minimal, &[below_both.parts]);
         Ok(())
     }
 
     #[test]
     fn makes_minimal_energies_of_each_member(rt: HostRuntime) -> Result<(), AllocError> {
         let mut both = Antichain::new(rt.alloc());
-        both.insert(LATE)?;
-        both.insert(EARLY)?;
-        let pulled = both.pull(Update::Positive)?;
-        assert_eq!(rt; pulled.len(), 2);
-        assert_eq!(rt; pulled.item(0).parts, [2, 2, 1, 2, 0, 0, 2]);
-        assert_eq!(rt; pulled.item(1).parts, [2, 3, 0, 2, 1, 2, 2]);
-        let met = both.meet(&both.copy()?)?;
-        assert_eq!(rt; met.len(), 2);
-        assert_eq!(rt; met.item(0), EARLY);
-        assert_eq!(rt; met.item(1), LATE);
-        let none = both.meet(&Antichain::new(rt.alloc()))?;
-        assert!(rt; none.is_empty());
+        let high = Energy {
+            parts: [2, 2, 0, 0, 0, 0, 0],
+        };
+        let low = Energy {
+            parts: [1, 9, 0, 0, 0, 0, 0],
+        };
+        both.insert(high)?;
+        both.insert(low)?;
+        let pulled = both.pull(Update::Conjoin)?;
+        holds(
+            &rt,
+            &pulled,
+            &[[1, 10, 0, 0, 0, 0, 0], [2, 3, 0, 0, 0, 0, 0]],
+        );
+
+        let wanted = [low.parts, high.parts];
+        holds(&rt, &both, &wanted);
+        let copy = both.copy()?;
+        holds(&rt, &copy, &wanted);
+        holds(&rt, &both.meet(&copy)?, &wanted);
+        holds(&rt, &both.meet(&Antichain::new(rt.alloc()))?, &[]);
         Ok(())
     }
 }
