@@ -2,6 +2,7 @@ ghost use Rattle.std.specs.Prelude.{◌≡◌, ◌<◌, ◌≤◌, [], ◌∷◌
 ghost use Rattle.std.specs.List.{list_any};
 ghost use Rattle.std.specs.Str.{bytes_eq};
 ghost use Rattle.indexmap.specs.IndexSet.{insert_key};
+ghost use Rattle.spectro_spec.specs.System.{IsLabel};
 ghost use Rattle.spectro_lts.specs.Labels.{labels_of};
 ghost use Rattle.spectro_lts.specs.Numbered.{GivesNumber};
 
@@ -22,7 +23,7 @@ pub struct Draft {
 }
 
 impl Model for Draft {
-    ghost use Rattle.spectro_spec.specs.System.{System, IsLabel};
+    ghost use Rattle.spectro_spec.specs.System.{System};
     ghost use Rattle.spectro_lts.specs.Numbered.{steps_of, IsNumbered};
 
     ghost Value = { System };
