@@ -42,6 +42,9 @@ module _ (states first : ℕ) (labels : List (String Global)) (steps : List Step
   pub count_of_labels : length labels ≡ length (labels_of (steps_of labels steps))
   count_of_labels = sym (length-map labels string_bytes) ∙ ap length indexed.numbered.in_order
 
+  pub has_rank : (label_no : ℕ) → label_no < length (labels_of (steps_of labels steps)) → label_no < length table.order.items
+  has_rank label_no within = omega (arith, within, count_of_labels, indexed.ranked.long, ap length indexed.has.ordered)
+
   label_of-at : (label_no : ℕ) → label_of (steps_of labels steps) label_no ≡ label_at labels label_no
   label_of-at label_no = sym (label_at-text labels label_no ∙ ap (λ texts. slice_index_or texts label_no []) indexed.numbered.in_order)
 

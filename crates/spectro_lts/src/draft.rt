@@ -107,7 +107,7 @@ impl Draft {
     {
         let alloc = *self.steps.allocator();
         let ranks = ranks(alloc, &self.labels)?;
-        let table = Table::build(alloc, self.states, &ranks, &self.steps)?;
+        let table = Table::build(alloc, self.states, ranks, &self.steps)?;
         Ok(Lts {
             states: self.states,
             initial: self.initial,

@@ -3,9 +3,15 @@ use Rattle.std.specs.List.Sorted.{IsStrictlyIncreasing}
 use Rattle.spectro_spec.specs.System.{System, IsWhole, post}
 use Rattle.spectro_spec.proofs.Successors.{post-rises, post-below}
 use Rattle.spectro_lts.specs.Labels.{labels_of, label_of}
-use Rattle.spectro_lts.proofs.Indexing.{successors-post}
+use Rattle.spectro_lts.proofs.Indexing.{has_rank, successors-post}
 use Rattle.spectro_lts.proofs.Numbering.{whole}
 use Rattle.spectro_lts.proofs.lts.Lts.successors.Goals as goal
+
+pub successors-requires-clause-label : goal.successors-requires-clause-label
+successors-requires-clause-label c =
+    let inside = c.self.inside in
+    let within = subst (λ (system : System). c.args.no < length (labels_of system.steps)) (sym c.self.view_is) c.requires.label in
+    has_rank inside.states inside.initial inside.labels.keys inside.steps.items inside.table c.self.invariant c.args.no within
 
 pub returns : goal.returns
 returns c =
