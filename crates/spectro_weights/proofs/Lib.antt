@@ -4,4 +4,5 @@ pub mod WeightLines
 pub mod Reading
 pub mod Judgements
 pub mod Texts
+pub mod EachText
 pub mod LongTexts

@@ -1,5 +1,5 @@
 -- Laws of whole texts: a text is of one weighing or has one first fault, and a long text is judged by its front.
-use Rattle.std.specs.Prelude.{ℕ, ◌≡◌, ◌≤◌, List, length, take}
+use Rattle.std.specs.Prelude.{ℕ, ◌≡◌, ◌≤◌, ◌⊎◌, List, length, take}
 use Rattle.spectro_io.specs.Limits.{read_limit}
 use Rattle.spectro_spec.specs.Weighing.{Weighing}
 use Rattle.spectro_weights.specs.WeightTexts.{IsWeightText}
@@ -17,6 +17,10 @@ FirstFaultsAreOne = (text : List ℕ) (one other : WeightFault) → IsFirstFault
 -- the text of a weighing has no fault
 abbrev pub TextsHaveNoFault : Type 0
 TextsHaveNoFault = (text : List ℕ) (weighing : Weighing) (fault : WeightFault) → IsWeightText text weighing → IsFirstFault text fault → ⊥
+
+-- each text is of a weighing or has a first fault
+abbrev pub EachTextHasAWeighingOrAFault : Type 0
+EachTextHasAWeighingOrAFault = (text : List ℕ) → ((weighing : Weighing) × IsWeightText text weighing) ⊎ ((fault : WeightFault) × IsFirstFault text fault)
 
 -- the fault of as many bytes as are read is that of the whole text
 abbrev pub FaultsOfFrontsStay : Type 0

@@ -1,4 +1,5 @@
 ghost use Rattle.spectro_weights.specs.Laws.{
+  EachTextHasAWeighingOrAFault,
   FaultsOfFrontsStay,
   FirstFaultsAreOne,
   LongFrontsAreNoTexts,
@@ -19,6 +20,11 @@ pub fn first_faults_are_one()
 /// The text of a weighing has no fault.
 pub fn texts_have_no_fault()
     ensures { TextsHaveNoFault }
+{}
+
+/// Each text is of a weighing or has a first fault.
+pub fn a_text_has_a_weighing_or_a_fault()
+    ensures { EachTextHasAWeighingOrAFault }
 {}
 
 /// The fault of as many bytes as are read is that of the whole text.
