@@ -1,5 +1,5 @@
 -- What a text that has come byte by byte ends as is its system or its first fault.
-use Rattle.std.proofs.Common.{◌≡◌, ℕ, List, subst}
+use Rattle.std.proofs.Common.{◌≡◌, ◌⊎◌, inl, inr, ℕ, List, subst}
 use Rattle.std.specs.Prelude.{Result, Ok, Err, MatchResult, IfOk, IfErr}
 use Rattle.spectro_io.specs.Lines.{lines_of}
 use Rattle.spectro_spec.specs.System.{System}
@@ -9,7 +9,7 @@ use Rattle.spectro_aut.specs.Feeding.{Fed, nothing_fed, take_bytes, EndsAs, Fail
 use Rattle.spectro_aut.specs.declared.error.AutError.{AutError}
 use Rattle.spectro_aut.specs.declared.error.AutError.TheVariants.{Text, OutOfMemory}
 use Rattle.spectro_aut.specs.declared.error.AutFault.{AutFault}
-use Rattle.spectro_aut.proofs.Judgements.{judged, FailBehind, fail_at_line, fail_at_end, judged_ok-sound, judged_err-sound, judged_ok-complete, judged_err-complete}
+use Rattle.spectro_aut.proofs.Judgements.{cases_Result, judged, FailBehind, fail_at_line, fail_at_end, judged_ok-sound, judged_err-sound, judged_ok-complete, judged_err-complete}
 use Rattle.spectro_aut.proofs.Feedings.{ends_as_judged, ends_once}
 
 -- the first fault of a text is that of its lines
@@ -48,6 +48,14 @@ one_fault text one other first second = let a = fault_judged text one first in l
 
 pub no_fault_of_text : (text : List ℕ) (system : System) (fault : AutFault) → IsText text system → IsFirstFault text fault → ⊥
 no_fault_of_text text system fault is_text is_fault = let a = text_judged text system is_text in let b = fault_judged text fault is_fault in cc
+
+-- each text is judged
+pub system_or_fault : (text : List ℕ) → ((system : System) × IsText text system) ⊎ ((fault : AutFault) × IsFirstFault text fault)
+system_or_fault text =
+    elim (cases_Result (judged nothing_before (lines_of text))) [
+      | inl ok ↦ inl (ok.0, judged_ok-sound (lines_of text) nothing_before ok.0 tt ok.1)
+      | inr err ↦ inr (err.0, fault_of_text text err.0 (judged_err-sound (lines_of text) nothing_before err.0 tt err.1))
+    ]
 
 -- what was taken is the text that the answer speaks of
 pub finished_ok : (fed : Fed) (result : Result System AutError) → MatchResult result (λ system. EndsAs fed (Ok system)) (FailsBy (EndsAs fed)) → IfOk result (λ system. (taken : List ℕ) → HasTaken fed taken → IsText taken system)

@@ -1,5 +1,5 @@
 -- Laws of whole texts: a text is of one system or has one first fault, and a long text is judged by its front.
-use Rattle.std.specs.Prelude.{ℕ, ◌≡◌, ◌≤◌, List, length, take}
+use Rattle.std.specs.Prelude.{ℕ, ◌≡◌, ◌≤◌, ◌⊎◌, List, length, take}
 use Rattle.spectro_io.specs.Limits.{read_limit}
 use Rattle.spectro_spec.specs.System.{System}
 use Rattle.spectro_aut.specs.Grammar.{IsText}
@@ -17,6 +17,10 @@ FirstFaultsAreOne = (text : List ℕ) (one other : AutFault) → IsFirstFault te
 -- the text of a system has no fault
 abbrev pub TextsHaveNoFault : Type 0
 TextsHaveNoFault = (text : List ℕ) (system : System) (fault : AutFault) → IsText text system → IsFirstFault text fault → ⊥
+
+-- each text is of a system or has a first fault
+abbrev pub EachTextHasASystemOrAFault : Type 0
+EachTextHasASystemOrAFault = (text : List ℕ) → ((system : System) × IsText text system) ⊎ ((fault : AutFault) × IsFirstFault text fault)
 
 -- the text of a system is no longer than a text may be
 abbrev pub TextsAreShort : Type 0

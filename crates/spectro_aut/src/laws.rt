@@ -1,4 +1,5 @@
 ghost use Rattle.spectro_aut.specs.Laws.{
+  EachTextHasASystemOrAFault,
   FaultsOfFrontsStay,
   FirstFaultsAreOne,
   LongFrontsAreNoTexts,
@@ -21,6 +22,11 @@ pub fn first_faults_are_one()
 /// The text of a system has no fault.
 pub fn texts_have_no_fault()
     ensures { TextsHaveNoFault }
+{}
+
+/// Each text is of a system or has a first fault.
+pub fn a_text_has_a_system_or_a_fault()
+    ensures { EachTextHasASystemOrAFault }
 {}
 
 /// The text of a system is no longer than a text may be.
