@@ -1,5 +1,8 @@
 pub mod CharacterLaws
+pub mod FormulaCases
+pub mod LabelCases
 pub mod LabelOutcomes
+pub mod NodeCases
 pub mod NodeClauses
 pub mod NodeForms
 pub mod NodeFormulas

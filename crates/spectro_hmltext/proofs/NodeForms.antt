@@ -45,14 +45,14 @@ observation-once text inside other next number one two =
     (quoted.0, (number-once two.rest next number one.back two.back (subst (λ rest. BeginsNumber rest next one.back) quoted.1 one.number) two.number).0)
 
 module _ (text inside rest : List ℕ) (quoted : BeginsQuoted text inside rest) where
-  behind : (other : List ℕ) (next : ℕ) (is : IsObservation text other next) → BeginsNumber rest next is.back
-  behind other next is = subst (λ rest. BeginsNumber rest next is.back) (quoted-once text other is.rest inside rest is.quoted quoted).1 is.number
+  pub number_after : (other : List ℕ) (next : ℕ) (is : IsObservation text other next) → BeginsNumber rest next is.back
+  number_after other next is = subst (λ rest. BeginsNumber rest next is.back) (quoted-once text other is.rest inside rest is.quoted quoted).1 is.number
 
   pub no_next : None ≡ number_of (first_token rest) → (other : List ℕ) (next : ℕ) → ¬ IsObservation text other next
-  no_next none other next is = none-some (capped next) (none ∙ number_of-first rest next is.back (behind other next is))
+  no_next none other next is = none-some (capped next) (none ∙ number_of-first rest next is.back (number_after other next is))
 
   pub no_end : (AreBlanks (after_token rest) → ⊥) → (other : List ℕ) (next : ℕ) → ¬ IsObservation text other next
-  no_end more other next is = more (subst AreBlanks (sym (after_token-number rest next is.back (behind other next is))) is.end)
+  no_end more other next is = more (subst AreBlanks (sym (after_token-number rest next is.back (number_after other next is))) is.end)
 
   pub found-observation : is_number (first_token rest) ≡ true → AreBlanks (after_token rest) → IsObservation text inside (number_value (first_token rest))
   found-observation number end = record { rest = rest; back = after_token rest; quoted = quoted; number = found-number rest number; end = end }

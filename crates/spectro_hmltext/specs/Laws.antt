@@ -1,5 +1,6 @@
 -- What is true of all texts of formulas.
-use Rattle.std.specs.Prelude.{ℕ, ◌≡◌, ◌≤◌, List, length}
+use Rattle.std.specs.Prelude.{ℕ, ◌≡◌, ◌≤◌, ◌⊎◌, List, length}
+use Rattle.std.specs.Str.{IsUtf8}
 use Rattle.spectro_spec.specs.Formula.{Formula}
 use Rattle.spectro_hmltext.specs.declared.error.TextFault.{TextFault}
 use Rattle.spectro_hmltext.specs.FormulaTexts.{IsFormulaText}
@@ -14,6 +15,10 @@ FirstFaultsAreOne = (text : List ℕ) (one other : TextFault) → IsFirstFault t
 
 abbrev pub TextsHaveNoFault : Type 0
 TextsHaveNoFault = (text : List ℕ) (formula : Formula) (fault : TextFault) → IsFormulaText text formula → IsFirstFault text fault → ⊥
+
+-- each text of UTF-8 is of a formula or has a first fault
+abbrev pub EachTextHasAFormulaOrAFault : Type 0
+EachTextHasAFormulaOrAFault = (text : List ℕ) → IsUtf8 text → ((formula : Formula) × IsFormulaText text formula) ⊎ ((fault : TextFault) × IsFirstFault text fault)
 
 -- what is printed of a formula is a text of it, where it keeps the limits of a text
 abbrev pub PrintedTextsAreRead : Type 0

@@ -1,5 +1,5 @@
 -- What is true of all lines of nodes.
-use Rattle.std.specs.Prelude.{ℕ, ◌≡◌, ◌≤◌, List, ◌++◌, codes}
+use Rattle.std.specs.Prelude.{ℕ, ◌≡◌, ◌≤◌, ◌⊎◌, List, ◌++◌, codes}
 use Rattle.spectro_hml.specs.Sheets.{SheetNode, IsNodeAt}
 use Rattle.spectro_hmltext.specs.SheetTexts.{node_text}
 use Rattle.spectro_hmltext.specs.NodeLines.{IsNodeLine}
@@ -17,6 +17,10 @@ FaultsOfNodeLinesAreOne = (line : List ℕ) (place : ℕ) (one other : NodeError
 -- the line of a node has no fault at the place of the node
 abbrev pub NodeLinesHaveNoFault : Type 0
 NodeLinesHaveNoFault = (line : List ℕ) (place : ℕ) (node : SheetNode) (error : NodeError) → IsNodeLine line place node → IsNodeFault line place error → ⊥
+
+-- each line is of a node at a place or has a fault there
+abbrev pub EachLineHasANodeOrAFault : Type 0
+EachLineHasANodeOrAFault = (line : List ℕ) (place : ℕ) → ((node : SheetNode) × IsNodeLine line place node) ⊎ ((error : NodeError) × IsNodeFault line place error)
 
 -- the line that is written for a node, without its LF, is of this node, where the node may stand at its place, and its number is at most 4294967295
 abbrev pub WrittenNodesAreRead : Type 0

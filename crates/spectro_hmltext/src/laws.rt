@@ -1,4 +1,5 @@
 ghost use Rattle.spectro_hmltext.specs.Laws.{
+  EachTextHasAFormulaOrAFault,
   FirstFaultsAreOne,
   FormulasAreOne,
   PrintedTextsAreRead,
@@ -19,6 +20,11 @@ pub fn first_faults_are_one()
 /// The text of a formula has no fault.
 pub fn texts_have_no_fault()
     ensures { TextsHaveNoFault }
+{}
+
+/// Each text of UTF-8 is of a formula or has a first fault.
+pub fn a_text_has_a_formula_or_a_fault()
+    ensures { EachTextHasAFormulaOrAFault }
 {}
 
 /// What is printed of a formula is a text of it, where the limits of a text hold.

@@ -17,13 +17,13 @@ mod token;
 pub use error::{ParseError, TextFault, TextKind};
 pub use label::write_label;
 pub use laws::{
-    first_faults_are_one, formulas_are_one, printed_texts_are_read, printed_texts_are_short,
-    texts_have_no_fault,
+    a_text_has_a_formula_or_a_fault, first_faults_are_one, formulas_are_one,
+    printed_texts_are_read, printed_texts_are_short, texts_have_no_fault,
 };
 pub use node_line::{NodeError, parse_node_line};
 pub use node_line_laws::{
-    faults_of_node_lines_are_one, node_lines_have_no_fault, nodes_of_lines_are_one,
-    written_nodes_are_read,
+    a_line_has_a_node_or_a_fault, faults_of_node_lines_are_one, node_lines_have_no_fault,
+    nodes_of_lines_are_one, written_nodes_are_read,
 };
 pub use parser::{MAX_TEXT_BYTES, Parsed, parse};
 pub use printer::{FormulaText, Printed, print};
