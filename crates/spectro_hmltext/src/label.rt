@@ -96,7 +96,7 @@ pub(crate) fn is_escaped(byte: u8) -> bool
 #[cfg(test)]
 mod tests {
     use super::write_label;
-    use spectro_io::{Failed, MemSink};
+    use spectro_io::MemSink;
     use std::test::Fail;
 
     #[test]
@@ -111,15 +111,6 @@ mod tests {
             assert_eq!(rt; write_label(label, &mut sink), Ok(()), "{label:?}");
             assert_eq!(rt; sink.written(), expected, "{label:?}");
         }
-        Ok(())
-    }
-
-    #[test]
-    fn a_write_that_fails_leaves_a_proper_prefix(rt: HostRuntime) -> Result<(), Fail> {
-        let mut sink = MemSink::new(rt.alloc(), 100, 2, &[2])?;
-        assert_eq!(rt; write_label("a\"b", &mut sink), Err(Failed));
-        assert_eq!(rt; sink.written(), b"\"a".as_slice());
-        assert_eq!(rt; sink.faults(), 1);
         Ok(())
     }
 }

@@ -50,35 +50,3 @@ fn conjunction_bytes(before: &[u64], clauses: &[Clause]) -> u64
     }
     bytes
 }
-
-#[cfg(test)]
-mod tests {
-    use super::text_bytes;
-    use spectro_hml::{Clause, Sheet};
-    use std::alloc::AllocError;
-
-    #[test]
-    fn counts_the_bytes_of_each_formula(rt: HostRuntime) -> Result<(), AllocError> {
-        let alloc = rt.alloc();
-        let both = [
-            Clause {
-                positive: true,
-                node: 0,
-            },
-            Clause {
-                positive: false,
-                node: 1,
-            },
-        ];
-        let mut sheet = Sheet::new(alloc);
-        sheet.push_all(&[])?;
-        sheet.push_see("a\"b\\", 0)?;
-        sheet.push_all(&both)?;
-        assert_eq!(rt; text_bytes(alloc, &sheet, 0)?, 2);
-        // `<"a\"b\\">tt`
-        assert_eq!(rt; text_bytes(alloc, &sheet, 1)?, 12);
-        // `and{tt,not <"a\"b\\">tt}`
-        assert_eq!(rt; text_bytes(alloc, &sheet, 2)?, 24);
-        Ok(())
-    }
-}

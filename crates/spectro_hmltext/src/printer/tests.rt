@@ -1,9 +1,27 @@
 ghost use Rattle.std.specs.Prelude.{◌≡◌};
 
 use super::{Printed, print};
+use crate::parse;
 use spectro_hml::{Clause, Sheet};
 use std::alloc::{AllocError, Global};
 use std::test::Fail;
+
+// Texts of formulas, a number of bytes, and what is printed of the formula where it has no more.
+const PRINTED: [(&str, u32, Option<&str>); 5] = [
+    (" tt ", 2, Some("tt")),
+    ("tt", 1, None),
+    (
+        "and { <\"put\"> tt , not<\"get\">tt }",
+        28,
+        Some("and{<\"put\">tt,not <\"get\">tt}"),
+    ),
+    ("and { <\"put\"> tt , not<\"get\">tt }", 27, None),
+    (
+        "< \"\\\"é\\\\\" > and { tt }",
+        17,
+        Some("<\"\\\"é\\\\\">and{tt}"),
+    ),
+];
 
 fn clause(positive: bool, node: usize) -> Clause
     ensures { result ≡ record { positive = positive; node = node } }
@@ -24,41 +42,11 @@ fn last(alloc: Global, sheet: &Sheet, max: u32) -> Result<Option<String>, AllocE
 
 #[test]
 fn prints_what_fits_and_nothing_else(rt: HostRuntime) -> Result<(), Fail> {
-    let alloc = rt.alloc();
-    let mut sheet = Sheet::new(alloc);
-    sheet.push_all(&[])?;
-    assert_eq!(rt; last(alloc, &sheet, 2)?.as_deref(), Some("tt"));
-    assert_eq!(rt; last(alloc, &sheet, 1)?.as_deref(), None);
-    sheet.push_see("a", 0)?;
-    assert_eq!(rt; last(alloc, &sheet, 7)?.as_deref(), Some("<\"a\">tt"));
-    assert_eq!(rt; last(alloc, &sheet, 6)?.as_deref(), None);
-    sheet.push_all(&[clause(false, 1)])?;
-    assert_eq!(rt;
-        last(alloc, &sheet, 16)?.as_deref(),
-        Some("and{not <\"a\">tt}")
-    );
-    assert_eq!(rt; last(alloc, &sheet, 15)?.as_deref(), None);
-    Ok(())
-}
-
-#[test]
-fn prints_clauses_of_both_signs_and_labels_with_escapes(rt: HostRuntime) -> Result<(), Fail> {
-    let alloc = rt.alloc();
-    let mut sheet = Sheet::new(alloc);
-    sheet.push_all(&[])?;
-    sheet.push_see("é\"\\", 0)?;
-    sheet.push_see("b", 1)?;
-    sheet.push_all(&[clause(true, 0), clause(false, 1), clause(true, 2)])?;
-    let expected = "and{tt,not <\"é\\\"\\\\\">tt,<\"b\"><\"é\\\"\\\\\">tt}";
-    assert_eq!(rt; last(alloc, &sheet, 100)?.as_deref(), Some(expected));
-    sheet.push_all(&[clause(true, 3)])?;
-    sheet.push_all(&[clause(false, 3), clause(true, 4)])?;
-    let mut twice = String::from_str(alloc, "and{not ")?;
-    twice.push_str(expected)?;
-    twice.push_str(",and{")?;
-    twice.push_str(expected)?;
-    twice.push_str("}}")?;
-    assert_eq!(rt; last(alloc, &sheet, 200)?.as_deref(), Some(twice.as_str()));
+    for (text, max, expected) in PRINTED {
+        let parsed = parse(rt.alloc(), text)?;
+        let printed = last(rt.alloc(), &parsed.sheet, max)?;
+        assert_eq!(rt; printed.as_deref(), expected, "{text:?}");
+    }
     Ok(())
 }
 
@@ -73,26 +61,6 @@ fn a_formula_of_shared_parts_is_too_long_at_once(rt: HostRuntime) -> Result<(), 
         sheet.push_see("a", below)?;
         sheet.push_all(&[clause(true, below), clause(true, below + 1)])?;
     }
-    assert_eq!(rt; sheet.len(), 201);
-    assert_eq!(rt; last(alloc, &sheet, 1000)?.as_deref(), None);
     assert_eq!(rt; last(alloc, &sheet, 4_294_967_295)?.as_deref(), None);
-    Ok(())
-}
-
-#[test]
-fn prints_a_long_chain(rt: HostRuntime) -> Result<(), Fail> {
-    let alloc = rt.alloc();
-    let mut sheet = Sheet::new(alloc);
-    sheet.push_all(&[])?;
-    for next in 0..50_000 {
-        assert!(rt; next < sheet.len());
-        sheet.push_see("a", next)?;
-    }
-    assert_eq!(rt; last(alloc, &sheet, 250_001)?.as_deref(), None);
-    let printed = last(alloc, &sheet, 250_002)?;
-    let text = printed.as_deref().unwrap_or("");
-    assert_eq!(rt; text.len(), 250_002);
-    assert!(rt; text.starts_with("<\"a\"><\"a\">"));
-    assert!(rt; text.ends_with("<\"a\">tt"));
     Ok(())
 }
