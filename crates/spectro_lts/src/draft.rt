@@ -134,37 +134,3 @@ fn number_label(
     let (no, _) = labels.insert_full(String::from_str(alloc, label)?)?;
     Ok(no as u32)
 }
-
-#[cfg(test)]
-mod tests {
-    use super::*;
-    use std::test::Fail;
-
-    #[test]
-    fn numbers_labels_where_they_first_stand(rt: HostRuntime) -> Result<(), Fail> {
-        let mut draft = Draft::new(rt.alloc(), 3, 1)?;
-        assert!(rt; !draft.has_label("tea"));
-        draft.add(1, "tea", 2)?;
-        draft.add(0, "coin", 1)?;
-        draft.add(2, "tea", 2)?;
-        assert_eq!(rt; draft.step_count(), 3);
-        assert_eq!(rt; draft.label_count(), 2);
-        assert!(rt; draft.has_label("coin"));
-        assert!(rt; !draft.has_label("coi"));
-
-        let lts = draft.finish()?;
-        assert_eq!(rt; lts.states(), 3);
-        assert_eq!(rt; lts.initial(), 1);
-        assert_eq!(rt; lts.step_count(), 3);
-        for (k, from, label, to) in [(0, 1, 0, 2), (1, 0, 1, 1), (2, 2, 0, 2)] {
-            assert_eq!(rt; lts.step(k), Step { from, label, to }, "step {k}");
-        }
-        assert_eq!(rt; lts.label_count(), 2);
-        assert_eq!(rt; lts.label(0), "tea");
-        assert_eq!(rt; lts.label(1), "coin");
-        assert_eq!(rt; lts.label_no("tea"), Some(0));
-        assert_eq!(rt; lts.label_no("coin"), Some(1));
-        assert_eq!(rt; lts.label_no("coi"), None);
-        Ok(())
-    }
-}

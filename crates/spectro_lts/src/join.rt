@@ -38,33 +38,3 @@ fn add_shifted(draft: &mut Draft, by: u32, lts: &Lts) -> Result<(), AllocError>
     }
     Ok(())
 }
-
-#[cfg(test)]
-mod tests {
-    use super::*;
-    use crate::Step;
-    use std::test::Fail;
-
-    #[test]
-    fn puts_the_right_behind_the_left(rt: HostRuntime) -> Result<(), Fail> {
-        let mut draft = Draft::new(rt.alloc(), 2, 1)?;
-        draft.add(1, "a", 0)?;
-        draft.add(0, "b", 1)?;
-        let left = draft.finish()?;
-        let mut draft = Draft::new(rt.alloc(), 3, 0)?;
-        draft.add(0, "c", 2)?;
-        draft.add(2, "a", 1)?;
-        let right = draft.finish()?;
-
-        let both = Lts::join(rt.alloc(), &left, &right)?;
-        assert_eq!(rt; both.states(), 5);
-        assert_eq!(rt; both.initial(), 1);
-        assert_eq!(rt; both.step_count(), 4);
-        for (k, from, label, to) in [(0, 1, 0, 0), (1, 0, 1, 1), (2, 2, 2, 4), (3, 4, 0, 3)] {
-            assert_eq!(rt; both.step(k), Step { from, label, to }, "step {k}");
-        }
-        assert_eq!(rt; both.label_count(), 3);
-        assert_eq!(rt; both.label(2), "c");
-        Ok(())
-    }
-}

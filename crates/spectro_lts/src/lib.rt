@@ -9,6 +9,8 @@ mod state_set;
 mod step;
 mod successors;
 mod table;
+#[cfg(test)]
+mod tests;
 
 pub use draft::Draft;
 pub use lts::Lts;
