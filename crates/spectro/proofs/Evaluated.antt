@@ -1,5 +1,5 @@
 -- The answer of `eval` from the answers of its parts.
-use Rattle.std.proofs.Common.{◌≡◌, ℕ, List, refl, ap, inl, inr}
+use Rattle.std.proofs.Common.{◌≡◌, ℕ, refl, ap, inl, inr}
 use Rattle.std.specs.Prelude.{Bool, IsTrue, ◌↔◌, Option, IfSome}
 use Rattle.spectro_spec.specs.System.{System}
 use Rattle.spectro_spec.specs.Formula.{Formula, Satisfies}

@@ -1,12 +1,10 @@
 -- The answer of a command from what was read, prepared and written.
-use Rattle.std.proofs.Common.{◌≡◌, ◌≤◌, ◌⊎◌, ℕ, List, [], take, sym, subst, arith, inl, inr}
+use Rattle.std.proofs.Common.{◌≤◌, ℕ, List, [], sym, subst, arith, inl, inr}
 use Rattle.std.specs.Prelude.{Option, None, Some, IfSome}
 use Rattle.std.proofs.KnownBytes.{Appends-nil, Keeps-refl}
 use Rattle.spectro_io.specs.Shelves.{Texts}
-use Rattle.spectro.specs.declared.status.BadText as declared
 use Rattle.spectro.specs.declared.status.Status.{Status}
 use Rattle.spectro.specs.declared.status.Status.TheVariants.{Done, No, Usage, BadText, TooLarge, ReadFault, WriteFault, OutOfMemory}
-use Rattle.spectro.specs.Causes.{OrMemory}
 use Rattle.spectro.specs.Outcome.{Answers, Finishes}
 use Rattle.spectro.specs.Stops.{IsStopped, no_memory, unread, refused, too_large}
 

@@ -1,8 +1,6 @@
 -- Two files and a limit have one answer of `size`: by the order of refusals, since a text is of one system and from it one
 -- list of pairs is reached.
-use Rattle.std.proofs.Common.{◌≡◌, ◌∙◌, ◌<◌, ◌≤◌, ℕ, List, [], length, sym, ap, subst, arith}
-use Rattle.std.specs.Prelude.{Option, None, Some}
-use Rattle.std.proofs.lemmas.Option.{same_Some}
+use Rattle.std.proofs.Common.{◌≡◌, ◌∙◌, ◌<◌, ◌≤◌, ℕ, List, length, sym, ap, subst, arith}
 use Rattle.spectro_spec.specs.System.{System}
 use Rattle.spectro_game.specs.Pairs as game
 use Rattle.spectro_game.specs.Pairs.{Pair}
@@ -10,8 +8,6 @@ use Rattle.spectro_theory.specs.LawsOfPairs.{ReachedPairsAreOne}
 use Rattle.spectro_io.specs.Shelves.{Texts}
 use Rattle.spectro_aut.specs.Laws.{SystemsAreOne, FirstFaultsAreOne, TextsHaveNoFault}
 use Rattle.spectro.specs.declared.status.Status.{Status}
-use Rattle.spectro.specs.declared.status.Status.TheVariants as statuses
-use Rattle.spectro.specs.declared.status.Which.{Which}
 use Rattle.spectro.specs.declared.status.Which.TheVariants.{Left, Right}
 use Rattle.spectro.specs.Refusals.{HoldsSystem}
 use Rattle.spectro.specs.Commands.Size.{SizeGives, AreCompared, size_line, no_left, no_right, too_large, sized}

@@ -1,5 +1,5 @@
 -- The answer of `size` from the answers of its parts.
-use Rattle.std.proofs.Common.{◌≡◌, ◌∙◌, ◌+◌, ◌<◌, ◌≤◌, ℕ, List, [], ◌∷◌, length, refl, sym, ap, subst, arith, inl, inr}
+use Rattle.std.proofs.Common.{◌≡◌, ◌∙◌, ◌+◌, ◌<◌, ◌≤◌, ℕ, List, [], ◌∷◌, refl, subst, arith, inl, inr}
 use Rattle.std.specs.Prelude.{Option, IfSome}
 use Rattle.spectro_spec.specs.System.{System, join}
 use Rattle.spectro_game.specs.Pairs as game
@@ -14,12 +14,10 @@ use Rattle.spectro_io.specs.Shelves.{Texts}
 use Rattle.spectro.specs.declared.status.Status.{Status}
 use Rattle.spectro.specs.declared.status.Status.TheVariants.{Done}
 use Rattle.spectro.specs.declared.status.Which.TheVariants.{Left, Right}
-use Rattle.spectro.specs.Causes.{HoldsNothing, LacksFile}
 use Rattle.spectro.specs.Commands.Size.{AreCompared, IsMeasured, IsUnmeasured, SizeGives, compared, no_left, no_right, too_large, sized, size_line}
 use Rattle.spectro.specs.Refusals.{HoldsSystem, RefusesFile}
 use Rattle.spectro.specs.Stops as stops
 use Rattle.spectro.specs.Stops.{IsStopped}
-use Rattle.spectro.specs.Words as words
 use Rattle.spectro.specs.Words.{Word}
 use Rattle.spectro.proofs.Finished.{told_both, told_map, stopped_map}
 
