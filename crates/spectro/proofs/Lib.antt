@@ -1,6 +1,7 @@
 pub mod Costs
 pub mod Evaluated
 pub mod Finished
+pub mod KeptCounts
 pub mod OneOutcome
 pub mod OneSize
 pub mod Priced

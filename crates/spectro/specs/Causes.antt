@@ -1,5 +1,5 @@
 -- When a fault of a device may be answered.
-use Rattle.std.specs.Prelude.{ℕ, ◌≡◌, ◌⊎◌, List, take, Option, None, Some, IfSome}
+use Rattle.std.specs.Prelude.{ℕ, ◌≡◌, ◌≢◌, ◌⊎◌, List, take, Option, None, Some, IfSome, Result, MatchResult}
 use Rattle.spectro_io.specs.Faults.{Rose}
 use Rattle.spectro_io.specs.Limits.{read_limit}
 use Rattle.spectro_io.specs.Shelves.{Texts}
@@ -26,6 +26,10 @@ pub record HasTakenText (told : Option Texts) (name : Word) (feed : Fed) : Type 
 -- a text was not read, since the shelf failed or the name holds nothing
 abbrev pub IsUnread : Option Texts → Word → ℕ → ℕ → Status → Type 0
 IsUnread told name before now status = (status ≡ ReadFault) × (Rose before now ⊎ HoldsNothing told name)
+
+-- the count of faults stayed, unless what is answered is a fault of reading
+abbrev pub KeepsCount : {T : Type 0} → ℕ → ℕ → Result T Status → Type 0
+KeepsCount before now result = MatchResult result (λ _. now ≡ before) (λ status. status ≢ ReadFault → now ≡ before)
 
 -- a refusal of this kind, or want of memory
 abbrev pub OrMemory : (Status → Type 0) → Status → Type 0
@@ -56,6 +60,9 @@ pub record HasCauses (told : Option Texts) (asked : Option Command) (counts : Co
   pub read : answer ≡ ReadFault → Rose counts.shelf_before counts.shelf_now ⊎ LacksFile told asked
   -- a fault of writing: the output failed
   pub write : answer ≡ WriteFault → Rose counts.out_before counts.out_now
+  -- on any other answer the counts stayed
+  pub read_kept : answer ≢ ReadFault → counts.shelf_now ≡ counts.shelf_before
+  pub write_kept : answer ≢ WriteFault → counts.out_now ≡ counts.out_before
   -- the words are refused where they are no command, and nowhere else
   pub usage : answer ≡ Usage → asked ≡ None
   pub no_command : asked ≡ None → answer ≡ Usage

@@ -58,9 +58,9 @@ command_message asked OutOfMemory = codes "spectro: out of memory\n"
 abbrev pub message : List Word → Status → List ℕ
 message words status = command_message (command words) status
 
--- the bytes were written whole, or, where the count of faults rose, a proper prefix of them
+-- the bytes were written whole and the count of faults stayed, or it rose, and a proper prefix of them was written
 abbrev pub Tells : List ℕ → Option (List ℕ) → Option (List ℕ) → ℕ → ℕ → Type 0
-Tells bytes old new before now = Appends old new bytes ⊎ (AppendsPart old new bytes × Rose before now)
+Tells bytes old new before now = (Appends old new bytes × (now ≡ before)) ⊎ (AppendsPart old new bytes × Rose before now)
 
 -- nothing is told where the command was done or its answer is no
 abbrev pub IsUntold : {Device : Type 0} → Status → Device → Device → Type 0

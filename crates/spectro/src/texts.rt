@@ -1,13 +1,13 @@
 //! The texts that commands ask for: read from the shelf to their ends, and then taken as what they stand for.
 
-ghost use Rattle.std.specs.Prelude.{◌≡◌, ◌≤◌, ℕ, List, IfOk, IfErr, IfSome, IsErrOf};
+ghost use Rattle.std.specs.Prelude.{◌≡◌, ◌≤◌, ℕ, List, IfOk, OnOk, IfErr, IfSome, IsErrOf};
 ghost use Rattle.spectro_aut.specs.RoundTrip.{KeepsLimits};
 ghost use Rattle.spectro_io.specs.Faults.{Rose};
 ghost use Rattle.spectro_aut.specs.Feeding.{HasTaken};
 ghost use Rattle.spectro_hmltext.specs.Parsing.{IsParsed};
 ghost use Rattle.spectro_weights.specs.WeightTexts.{IsWeightText};
 ghost use Rattle.spectro.specs.Asked.{named};
-ghost use Rattle.spectro.specs.Causes.{HoldsNothing, HasRead, HasTakenText, LacksWeights, OrMemory, IsUnread};
+ghost use Rattle.spectro.specs.Causes.{HoldsNothing, HasRead, HasTakenText, KeepsCount, LacksWeights, OrMemory, IsUnread};
 ghost use Rattle.spectro.specs.Feeds.{TakesAll};
 ghost use Rattle.spectro.specs.Refusals.{HoldsSystem, IsTextOf, RefusesFile, RefusesSystem, RefusesFormula, RefusesWeighing};
 ghost use Rattle.spectro.specs.Stops.{IsStopped};
@@ -30,6 +30,8 @@ fn take_all<S: Source>(alloc: Global, source: &mut S) -> Result<Feed, ReadError>
     ensures texts { S.texts source.new ≡ S.texts source.old }
     ensures cause { IsErrOf result ReadError.Failed → Rose (S.faults source.old) (S.faults source.new) }
     ensures later { S.faults source.old ≤ S.faults source.new }
+    ensures kept { OnOk result (S.faults source.new ≡ S.faults source.old) }
+    ensures memory { IsErrOf result ReadError.OutOfMemory → S.faults source.new ≡ S.faults source.old }
 {
     let mut feed = Feed::new(alloc)?;
     let mut piece = [0u8; PIECE];
@@ -52,6 +54,7 @@ fn take_text<H: Shelf>(alloc: Global, name: &str, shelf: &mut H) -> Result<Feed,
     ensures cause { IfErr result (OrMemory (IsUnread (H.texts shelf.old) name.now (H.faults shelf.old) (H.faults shelf.new))) }
     ensures texts { H.texts shelf.new ≡ H.texts shelf.old }
     ensures later { H.faults shelf.old ≤ H.faults shelf.new }
+    ensures kept { KeepsCount (H.faults shelf.old) (H.faults shelf.new) result }
 {
     let Ok(true) = shelf.open(name) else {
         return Err(Status::ReadFault);
@@ -91,6 +94,7 @@ pub fn take_system<H: Shelf>(
     ensures stopped { IfErr result (IsStopped (H.texts shelf.old) (λ texts status _. RefusesFile which (texts name.now) status) (HoldsNothing (H.texts shelf.old) name.now) (H.faults shelf.old) (H.faults shelf.new)) }
     ensures texts { H.texts shelf.new ≡ H.texts shelf.old }
     ensures later { H.faults shelf.old ≤ H.faults shelf.new }
+    ensures kept { KeepsCount (H.faults shelf.old) (H.faults shelf.new) result }
 {
     match take_text(alloc, name, shelf) {
         Ok(feed) => read_system(feed, which),
@@ -120,6 +124,7 @@ fn take_bytes<H: Shelf>(alloc: Global, name: &str, shelf: &mut H) -> Result<Vec<
     ensures cause { IfErr result (OrMemory (IsUnread (H.texts shelf.old) name.now (H.faults shelf.old) (H.faults shelf.new))) }
     ensures texts { H.texts shelf.new ≡ H.texts shelf.old }
     ensures later { H.faults shelf.old ≤ H.faults shelf.new }
+    ensures kept { KeepsCount (H.faults shelf.old) (H.faults shelf.new) result }
 {
     let Ok(true) = shelf.open(name) else {
         return Err(Status::ReadFault);
@@ -157,6 +162,7 @@ pub fn take_weights<H: Shelf>(
     ensures stopped { IfErr result (IsStopped (H.texts shelf.old) (λ texts status _. RefusesWeights texts (named name.entry) status) (LacksWeights (H.texts shelf.old) (named name.entry)) (H.faults shelf.old) (H.faults shelf.new)) }
     ensures texts { H.texts shelf.new ≡ H.texts shelf.old }
     ensures later { H.faults shelf.old ≤ H.faults shelf.new }
+    ensures kept { KeepsCount (H.faults shelf.old) (H.faults shelf.new) result }
 {
     let Some(name) = name else {
         return Ok(Weights::new(alloc));

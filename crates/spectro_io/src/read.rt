@@ -1,4 +1,4 @@
-ghost use Rattle.std.specs.Prelude.{◌≡◌, ◌≤◌, take, IfOk, IfSome, OnErr, IsErrOf};
+ghost use Rattle.std.specs.Prelude.{◌≡◌, ◌≤◌, take, IfOk, IfSome, OnOk, OnErr, IsErrOf};
 ghost use Rattle.spectro_io.specs.declared.read.ReadError.TheVariants.{Failed as FailedError, OutOfMemory};
 ghost use Rattle.spectro_io.specs.Faults.{Rose};
 ghost use Rattle.spectro_io.specs.Limits.{read_limit};
@@ -43,6 +43,8 @@ fn read_to_limit<S: Source>(alloc: Global, source: &mut S) -> Result<Vec<u8>, Re
     ensures texts { S.texts source.new ≡ S.texts source.old }
     ensures cause { IsErrOf result ReadError.Failed → Rose (S.faults source.old) (S.faults source.new) }
     ensures later { S.faults source.old ≤ S.faults source.new }
+    ensures kept { OnOk result (S.faults source.new ≡ S.faults source.old) }
+    ensures memory { IsErrOf result ReadError.OutOfMemory → S.faults source.new ≡ S.faults source.old }
 {
     let mut bytes = Vec::new(alloc);
     let mut piece = [0u8; PIECE];
@@ -66,6 +68,8 @@ pub fn read_all<S: Source>(alloc: Global, source: &mut S) -> Result<Vec<u8>, Rea
     ensures texts { S.texts source.new ≡ S.texts source.old }
     ensures cause { IsErrOf result ReadError.Failed → Rose (S.faults source.old) (S.faults source.new) }
     ensures later { S.faults source.old ≤ S.faults source.new }
+    ensures kept { OnOk result (S.faults source.new ≡ S.faults source.old) }
+    ensures memory { IsErrOf result ReadError.OutOfMemory → S.faults source.new ≡ S.faults source.old }
 {
     read_to_limit(alloc, source)
 }

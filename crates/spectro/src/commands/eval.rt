@@ -1,4 +1,4 @@
-ghost use Rattle.std.specs.Prelude.{◌≡◌, ◌↔◌, ◌<◌, ◌≤◌, length, IsTrue, Some, IfOk, IfErr, IfSome};
+ghost use Rattle.std.specs.Prelude.{◌≡◌, ◌≢◌, ◌↔◌, ◌<◌, ◌≤◌, length, IsTrue, Some, IfOk, IfErr, IfSome};
 ghost use Rattle.spectro_spec.specs.Formula.{Satisfies};
 ghost use Rattle.spectro_spec.specs.Pricing.{price};
 ghost use Rattle.spectro_energy.specs.Energy.{price_of};
@@ -6,7 +6,7 @@ ghost use Rattle.spectro_hml.specs.Sheets.{unfolded};
 ghost use Rattle.spectro_io.specs.Bytes.{WritesWhole};
 ghost use Rattle.spectro_io.specs.Faults.{HasCause, Rose};
 ghost use Rattle.spectro.specs.Asked.{named};
-ghost use Rattle.spectro.specs.Causes.{HasCauses, LacksFile};
+ghost use Rattle.spectro.specs.Causes.{HasCauses, KeepsCount, LacksFile};
 ghost use Rattle.spectro.specs.Commands.Eval.{EvalGives, eval_text};
 ghost use Rattle.spectro.specs.Notation.{truth_line};
 ghost use Rattle.spectro.specs.Outcome.{Answers, CommandOutcome, Finishes, IsSilent};
@@ -66,6 +66,7 @@ fn evaluate<H: Shelf>(
     ensures stopped { IfErr result (λ status. IsStopped (H.texts shelf.old) (λ texts. EvalGives texts formula.now file.now (named weights.entry)) (LacksFile (H.texts shelf.old) (Some (words.eval formula.now file.now (named weights.entry)))) (H.faults shelf.old) (H.faults shelf.new) status) }
     ensures texts { H.texts shelf.new ≡ H.texts shelf.old }
     ensures later { H.faults shelf.old ≤ H.faults shelf.new }
+    ensures kept { KeepsCount (H.faults shelf.old) (H.faults shelf.new) result }
 {
     let lts = take_system(alloc, file, Which::Left, shelf)?;
     let parsed = read_formula(alloc, formula)?;
@@ -93,6 +94,7 @@ fn truth_line(truth: bool) -> &'static [u8]
 fn write_answer<O: Sink>(answer: Answer, parts: Parts, out: &mut O) -> Status
     ensures written { Finishes (eval_text answer.truth parts (price_of answer.price.parts)) result (O.written out.old) (O.written out.new) }
     ensures cause { result ≡ Status.WriteFault → Rose (O.faults out.old) (O.faults out.new) }
+    ensures kept { result ≢ Status.WriteFault → O.faults out.new ≡ O.faults out.old }
 {
     match put_answer(answer, parts, out) {
         Ok(()) => Status::Done,

@@ -1,11 +1,11 @@
-ghost use Rattle.std.specs.Prelude.{◌≡◌, ◌<◌, ◌≤◌, length, Some, IfOk, IfErr, IfSome};
+ghost use Rattle.std.specs.Prelude.{◌≡◌, ◌≢◌, ◌<◌, ◌≤◌, length, Some, IfOk, IfErr, IfSome};
 ghost use Rattle.spectro_energy.specs.Energy.{price_of};
 ghost use Rattle.spectro_hml.specs.Sheets.{unfolded};
 ghost use Rattle.spectro_hmltext.specs.Printed.{formula_text};
 ghost use Rattle.spectro_io.specs.Bytes.{WritesWhole};
 ghost use Rattle.spectro_io.specs.Faults.{HasCause, Rose};
 ghost use Rattle.spectro.specs.Asked.{named};
-ghost use Rattle.spectro.specs.Causes.{HasCauses, LacksWeights};
+ghost use Rattle.spectro.specs.Causes.{HasCauses, KeepsCount, LacksWeights};
 ghost use Rattle.spectro.specs.Commands.Price.{PriceGives, priced_text};
 ghost use Rattle.spectro.specs.Outcome.{Answers, CommandOutcome, Finishes, IsSilent};
 ghost use Rattle.spectro.specs.Stops.{IsStopped};
@@ -55,6 +55,7 @@ fn find_price<H: Shelf>(
     ensures stopped { IfErr result (λ status. IsStopped (H.texts shelf.old) (λ texts. PriceGives texts formula.now (named weights.entry)) (LacksWeights (H.texts shelf.old) (named weights.entry)) (H.faults shelf.old) (H.faults shelf.new) status) }
     ensures texts { H.texts shelf.new ≡ H.texts shelf.old }
     ensures later { H.faults shelf.old ≤ H.faults shelf.new }
+    ensures kept { KeepsCount (H.faults shelf.old) (H.faults shelf.new) result }
 {
     let parsed = read_formula(alloc, formula)?;
     let weights = take_weights(alloc, weights, shelf)?;
@@ -77,6 +78,7 @@ fn put_priced<O: Sink>(priced: &Priced, parts: Parts, out: &mut O) -> Result<(),
 fn write_priced<O: Sink>(priced: &Priced, parts: Parts, out: &mut O) -> Status
     ensures written { Finishes (priced_text priced.now.text parts (price_of priced.now.price.parts)) result (O.written out.old) (O.written out.new) }
     ensures cause { result ≡ Status.WriteFault → Rose (O.faults out.old) (O.faults out.new) }
+    ensures kept { result ≢ Status.WriteFault → O.faults out.new ≡ O.faults out.old }
 {
     match put_priced(priced, parts, out) {
         Ok(()) => Status::Done,

@@ -1,4 +1,4 @@
-ghost use Rattle.std.specs.Prelude.{◌≡◌, Some, IfSome};
+ghost use Rattle.std.specs.Prelude.{◌≡◌, ◌≢◌, Some, IfSome};
 ghost use Rattle.spectro_io.specs.Faults.{Rose};
 ghost use Rattle.spectro_aut.specs.Written.{text_of};
 ghost use Rattle.spectro.specs.Causes.{HasCauses};
@@ -15,6 +15,7 @@ use std::alloc::Global;
 fn write_system<O: Sink>(lts: &Lts, out: &mut O) -> Status
     ensures written { Finishes (text_of lts.now) result (O.written out.old) (O.written out.new) }
     ensures cause { result ≡ Status.WriteFault → Rose (O.faults out.old) (O.faults out.new) }
+    ensures kept { result ≢ Status.WriteFault → O.faults out.new ≡ O.faults out.old }
 {
     match spectro_aut::write(lts, out) {
         Ok(()) => Status::Done,

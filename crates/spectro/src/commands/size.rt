@@ -1,8 +1,8 @@
-ghost use Rattle.std.specs.Prelude.{◌≡◌, ◌≤◌, [], ◌∷◌, ◌++◌, Some, IfOk, IfErr, IfSome};
+ghost use Rattle.std.specs.Prelude.{◌≡◌, ◌≢◌, ◌≤◌, [], ◌∷◌, ◌++◌, Some, IfOk, IfErr, IfSome};
 ghost use Rattle.spectro_aut.specs.RoundTrip.{KeepsLimits};
 ghost use Rattle.spectro_io.specs.Bytes.{WritesWhole};
 ghost use Rattle.spectro_io.specs.Faults.{HasCause, Rose};
-ghost use Rattle.spectro.specs.Causes.{HasCauses, LacksFile};
+ghost use Rattle.spectro.specs.Causes.{HasCauses, KeepsCount, LacksFile};
 ghost use Rattle.spectro.specs.Commands.Size.{SizeGives, IsMeasured, IsUnmeasured, size_line};
 ghost use Rattle.spectro.specs.Outcome.{Answers, CommandOutcome, Finishes, IsSilent};
 ghost use Rattle.spectro.specs.Stops.{IsStopped};
@@ -58,6 +58,7 @@ fn find_size<H: Shelf>(
     ensures stopped { IfErr result (λ status. IsStopped (H.texts shelf.old) (λ texts. SizeGives texts left.now right.now limit) (LacksFile (H.texts shelf.old) (Some (words.size left.now right.now limit))) (H.faults shelf.old) (H.faults shelf.new) status) }
     ensures texts { H.texts shelf.new ≡ H.texts shelf.old }
     ensures later { H.faults shelf.old ≤ H.faults shelf.new }
+    ensures kept { KeepsCount (H.faults shelf.old) (H.faults shelf.new) result }
 {
     let left = take_system(alloc, left, Which::Left, shelf)?;
     let right = take_system(alloc, right, Which::Right, shelf)?;
@@ -83,6 +84,7 @@ fn put_size<O: Sink>(extent: Extent, out: &mut O) -> Result<(), Failed>
 fn write_size<O: Sink>(extent: Extent, out: &mut O) -> Status
     ensures written { Finishes (size_line extent.pairs extent.positions) result (O.written out.old) (O.written out.new) }
     ensures cause { result ≡ Status.WriteFault → Rose (O.faults out.old) (O.faults out.new) }
+    ensures kept { result ≢ Status.WriteFault → O.faults out.new ≡ O.faults out.old }
 {
     match put_size(extent, out) {
         Ok(()) => Status::Done,

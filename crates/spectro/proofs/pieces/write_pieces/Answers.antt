@@ -1,4 +1,4 @@
-use Rattle.std.proofs.Common.{arith}
+use Rattle.std.proofs.Common.{◌∙◌, arith}
 use Rattle.std.proofs.lemmas.Result.{err_from_is_err_and}
 use Rattle.spectro.proofs.WrittenPieces.{pieces-more, pieces-part}
 use Rattle.spectro.proofs.pieces.write_pieces.Goals as goal
@@ -13,5 +13,5 @@ returns-in_err-write_piece-clause-bytes g c =
 pub loop-piece-preserved : goal.loop-piece-preserved
 loop-piece-preserved g c = record {
   bytes = pieces-more _ _ _ _ c.args.pieces.now c.loop-piece.piece-index _ c.loop-piece.invariant.bytes (omega arith) c.in_ok-write_piece.ensures.bytes;
-  later = omega (arith, c.in_ok-write_piece.ensures.cause.later, c.loop-piece.invariant.later);
+  faults = c.in_ok-write_piece.ensures.cause.kept ∙ c.loop-piece.invariant.faults;
 }

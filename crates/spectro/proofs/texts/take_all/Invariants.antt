@@ -7,7 +7,7 @@ invariant-reading g l = record {
   front : HasTakenSoFar (g.S.Source.left l.initial.source) (g.S.Source.left l.source) l.feed l.taken;
   within : l.taken ≤ 67108865;
   texts : g.S.Source.texts l.source ≡ g.S.Source.texts l.initial.source;
-  later : g.S.Source.faults l.initial.source ≤ g.S.Source.faults l.source;
+  faults : g.S.Source.faults l.source ≡ g.S.Source.faults l.initial.source;
 }
 
 abbrev pub decreases-reading : goal.decreases-reading

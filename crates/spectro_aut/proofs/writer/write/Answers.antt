@@ -1,4 +1,4 @@
-use Rattle.std.proofs.Common.{◌≡◌, take, arith, subst}
+use Rattle.std.proofs.Common.{◌≡◌, ◌∙◌, take, arith, subst}
 use Rattle.std.specs.List.{flat_map}
 use Rattle.std.proofs.lemmas.List.{take_all}
 use Rattle.std.proofs.lemmas.Result.{err_from_is_err_and}
@@ -29,7 +29,7 @@ loop-k-preserved g c =
     let step = step-at c.args.lts.now.steps c.loop-k.k c.step-step.result.from c.step-step.result.label c.step-step.result.to c.label.result.now c.step-step.ensures.step c.label.ensures.label in
     record {
       bytes = subst (IsPending _ _ _) (steps-more (header_text c.args.lts.now) c.args.lts.now.steps c.loop-k.k _ step) (pending-more _ _ _ _ _ _ _ c.loop-k.invariant.bytes c.in_ok-put_step.ensures.bytes);
-      later = omega (arith, c.in_ok-put_step.ensures.cause.later, c.loop-k.invariant.later);
+      faults = c.in_ok-put_step.ensures.cause.kept ∙ c.loop-k.invariant.faults;
     }
 
 -- all that was held is out

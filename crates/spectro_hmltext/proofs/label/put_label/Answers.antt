@@ -1,4 +1,4 @@
-use Rattle.std.proofs.Common.{◌≡◌, ◌<◌, [], ◌∷◌, length, take, ap, subst, arith, append_assoc}
+use Rattle.std.proofs.Common.{◌≡◌, ◌∙◌, ◌<◌, [], ◌∷◌, length, take, ap, subst, arith, append_assoc}
 use Rattle.std.proofs.lemmas.List.{take_all}
 use Rattle.std.proofs.lemmas.Result.{err_from_is_err_and}
 use Rattle.spectro_io.specs.Batches.{IsPending, Puts}
@@ -20,7 +20,7 @@ loop-byte-preserved g c =
     let within : c.loop-byte.byte-index < length c.args.label.now = omega (arith, ap length c.as_bytes-byte-items.ensures.value) in
     record {
       bytes = subst (IsPending _ _ _) (label-more c.args.batch.now c.args.label.now c.loop-byte.byte-index 0 within) (pending-more _ _ _ _ _ _ _ c.loop-byte.invariant.bytes (rw c.as_bytes-byte-items.ensures.value at c.in_ok-put_escaped.ensures.bytes));
-      later = omega (arith, c.in_ok-put_escaped.ensures.cause.later, c.loop-byte.invariant.later);
+      faults = c.in_ok-put_escaped.ensures.cause.kept ∙ c.loop-byte.invariant.faults;
     }
 
 -- all bytes are out or held, and the last quote is put

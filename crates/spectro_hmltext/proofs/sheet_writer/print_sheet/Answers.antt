@@ -1,4 +1,4 @@
-use Rattle.std.proofs.Common.{◌≡◌, take, arith, subst}
+use Rattle.std.proofs.Common.{◌≡◌, ◌∙◌, take, arith, subst}
 use Rattle.std.proofs.lemmas.List.{take_all}
 use Rattle.std.proofs.lemmas.Result.{err_from_is_err_and}
 use Rattle.spectro_io.specs.Batches.{IsPending}
@@ -16,7 +16,7 @@ returns-in_err-put_node-clause-bytes g c =
 pub loop-k-preserved : goal.loop-k-preserved
 loop-k-preserved g c = record {
   bytes = subst (IsPending _ _ _) (nodes-more c.args.sheet.now c.loop-k.k _ c.node.ensures.node) (pending-more _ _ _ _ _ _ _ c.loop-k.invariant.bytes c.in_ok-put_node.ensures.bytes);
-  later = omega (arith, c.in_ok-put_node.ensures.cause.later, c.loop-k.invariant.later);
+  faults = c.in_ok-put_node.ensures.cause.kept ∙ c.loop-k.invariant.faults;
 }
 
 -- all that was held is out

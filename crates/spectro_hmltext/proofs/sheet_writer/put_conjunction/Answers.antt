@@ -1,4 +1,4 @@
-use Rattle.std.proofs.Common.{◌≡◌, ◌++◌, take, sym, subst, arith}
+use Rattle.std.proofs.Common.{◌≡◌, ◌∙◌, ◌++◌, take, sym, subst}
 use Rattle.std.proofs.lemmas.List.{take_all}
 use Rattle.std.proofs.lemmas.Result.{err_from_is_err_and}
 use Rattle.spectro_io.specs.Batches.{IsPending, Puts}
@@ -18,7 +18,7 @@ returns-in_err-put_clause-clause-bytes g c =
 pub loop-clause-preserved : goal.loop-clause-preserved
 loop-clause-preserved g c = record {
   bytes = subst (IsPending _ _ _) (row-more clause_text (c.args.batch.now ++ conjunction_front c.args.number) c.args.clauses.now c.loop-clause.clause-index _ c.loop-clause-test.true) (pending-more _ _ _ _ _ _ _ c.loop-clause.invariant.bytes c.in_ok-put_clause.ensures.bytes);
-  later = omega (arith, c.in_ok-put_clause.ensures.cause.later, c.loop-clause.invariant.later);
+  faults = c.in_ok-put_clause.ensures.cause.kept ∙ c.loop-clause.invariant.faults;
 }
 
 -- all clauses are out or held, and the line ends

@@ -1,4 +1,4 @@
-use Rattle.std.proofs.Common.{◌≤◌, ◌++◌, take}
+use Rattle.std.proofs.Common.{◌≡◌, ◌++◌, take}
 use Rattle.std.specs.List.{flat_map}
 use Rattle.spectro_io.specs.Batches.{IsPending}
 use Rattle.spectro_hmltext.specs.SheetTexts.{clause_text}
@@ -8,5 +8,5 @@ use Rattle.spectro_hmltext.proofs.sheet_writer.put_conjunction.Given as goal
 abbrev pub invariant-loop-clause : goal.invariant-loop-clause
 invariant-loop-clause g l = record {
   bytes : IsPending (g.O.Sink.written l.fn.out) (g.O.Sink.written l.out) l.batch ((l.fn.batch ++ conjunction_front l.number) ++ flat_map clause_text (take l.clause-index l.clauses));
-  later : g.O.Sink.faults l.fn.out ≤ g.O.Sink.faults l.out;
+  faults : g.O.Sink.faults l.out ≡ g.O.Sink.faults l.fn.out;
 }

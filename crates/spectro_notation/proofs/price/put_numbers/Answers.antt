@@ -25,7 +25,7 @@ returns-in_err-put_next-clause-bytes g c =
 pub loop-number-preserved : goal.loop-number-preserved
 loop-number-preserved g c = record {
   bytes = subst (IsPending _ _ _) (row-more next_text c.put_number.new.self (take (length c.args.numbers.now - 1) (drop 1 c.args.numbers.now)) c.loop-number.number-index 0 (omega arith)) (pending-more _ _ _ _ _ _ _ c.loop-number.invariant.bytes c.in_ok-put_next.ensures.bytes);
-  later = omega (arith, c.in_ok-put_next.ensures.cause.later, c.loop-number.invariant.later);
+  faults = c.in_ok-put_next.ensures.cause.kept ∙ c.loop-number.invariant.faults;
 }
 
 -- all numbers are out or held

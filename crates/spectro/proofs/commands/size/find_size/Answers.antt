@@ -1,6 +1,7 @@
-use Rattle.std.proofs.Common.{arith, inl, inr}
+use Rattle.std.proofs.Common.{◌∙◌, arith, inl, inr}
 use Rattle.std.proofs.lemmas.Result.{err_from_is_err_and, IfOk-weaker, IfErr-weaker}
 use Rattle.spectro.proofs.Finished.{stopped_wider}
+use Rattle.spectro.proofs.KeptCounts.{kept_count}
 use Rattle.spectro.proofs.Sized.{refused_left, refused_right, unmeasured, measured}
 use Rattle.spectro.proofs.commands.size.find_size.Goals as goal
 
@@ -24,3 +25,6 @@ pub returns-clause-stopped : goal.returns-clause-stopped
 returns-clause-stopped g c =
     let also = rw c.in_ok-left.ensures.texts at c.in_ok-right.ensures.ok in
     IfErr-weaker c.size_of.result _ _ (λ status is. unmeasured _ _ _ _ _ _ _ status _ _ c.in_ok-left.ensures.ok also is) c.size_of.ensures.stopped
+
+pub returns-clause-kept : goal.returns-clause-kept
+returns-clause-kept g c = kept_count _ _ c.size_of.result (c.in_ok-right.ensures.kept ∙ c.in_ok-left.ensures.kept)

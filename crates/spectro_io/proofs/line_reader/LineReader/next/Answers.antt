@@ -12,7 +12,7 @@ taking-init g c = record {
   kept = record { line = refl; cut = refl };
   ready = λ held holds found. (refl, held-ahead _ held holds found);
   texts = refl;
-  later = omega arith;
+  faults = refl;
 }
 
 pub returns-then-is_full-clause-over : goal.returns-then-is_full-clause-over
@@ -56,7 +56,7 @@ taking-preserved g c =
       kept = keeps-read _ _ _ _ c.taking.invariant.kept c.gather.ensures.after r.after;
       ready = λ held holds found. absurd (cc (c.taking-test.ensures.found, (c.taking.invariant.ready held holds found).1));
       texts = r.texts ∙ c.taking.invariant.texts;
-      later = omega (arith, r.cause.later, c.taking.invariant.later);
+      faults = r.cause.kept ∙ c.taking.invariant.faults;
     }
 
 pub returns-clause-line : goal.returns-clause-line

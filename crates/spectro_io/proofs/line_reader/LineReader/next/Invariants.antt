@@ -1,4 +1,4 @@
-use Rattle.std.proofs.Common.{◌≡◌, ℕ, ◌≤◌, ◌-◌, List, true}
+use Rattle.std.proofs.Common.{◌≡◌, ℕ, ◌-◌, List, true}
 use Rattle.spectro_io.specs.Limits.{read_limit}
 use Rattle.spectro_io.specs.LineReaders.{has_line_feed, Holds, Takes, KeepsLine}
 use Rattle.spectro_io.proofs.line_reader.LineReader.next.Given as goal
@@ -9,7 +9,7 @@ invariant-taking g l = record {
   kept : KeepsLine l.initial.self l.self;
   ready : (held : List ℕ) → Holds l.initial.self held → has_line_feed held ≡ true → (l.source ≡ l.initial.source) × (has_line_feed l.self.ahead ≡ true);
   texts : g.S.Source.texts l.source ≡ g.S.Source.texts l.initial.source;
-  later : g.S.Source.faults l.initial.source ≤ g.S.Source.faults l.source;
+  faults : g.S.Source.faults l.source ≡ g.S.Source.faults l.initial.source;
 }
 
 abbrev pub decreases-taking : goal.decreases-taking
