@@ -13,7 +13,8 @@ use Rattle.spectro_io.proofs.ClosingQuotes.{quotes-once}
 use Rattle.spectro_io.proofs.QuoteCases.{quotes-cases, label-cases}
 use Rattle.spectro_io.proofs.Tokens.{no_token}
 use Rattle.spectro_hml.specs.declared.node.Clause.{Clause}
-use Rattle.spectro_hml.specs.Sheets.{SheetNode, see_node, all_node, IsBeforeClause, ClausesRise}
+use Rattle.spectro_hml.specs.Clauses.{IsBeforeClause, ClausesRise}
+use Rattle.spectro_hml.specs.Sheets.{SheetNode, see_node, all_node}
 use Rattle.spectro_hmltext.specs.NodeLines.{BeginsQuoted, IsObservation, AreClauses, NodeForm, see_form, all_form, first_number, HoldsOfOthers, IsNodeForm, HasLabel, AreSmall, IsNextAt, Rises, IsNodeOf, IsNodeLine}
 use Rattle.spectro_hmltext.specs.NodeReading.{IsNoObservation, AreNoClauses, clause_read}
 use Rattle.spectro_hmltext.specs.NodeFaults.{IsFormFault, bad_label, bad_number, bad_node, not_rising, IsNodeFault, bad_line, bad_form}
