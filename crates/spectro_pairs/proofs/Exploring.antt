@@ -2,7 +2,7 @@
 use Rattle.std.proofs.Common.{ℕ, ◌+◌, ◌<◌, ◌≤◌, ◌≡◌, ◌≢◌, List, [], ◌∷◌, ◌++◌, length, map, take, slice_get, refl, sym, ap, ◌∙◌, subst, arith, All}
 use Rattle.std.proofs.lemmas.List.{take_all}
 use Rattle.spectro_spec.specs.System.{System}
-use Rattle.spectro_spec.specs.Weighing.{Weighing, weight_of}
+use Rattle.spectro_spec.specs.Weighing.{Weighing, IsWeighing, weight_of}
 use Rattle.spectro_game.specs.Pairs.{Pair, AreReachedPairs, followers, size}
 use Rattle.spectro_lts.specs.Labels.{labels_of}
 use Rattle.spectro_theory.specs.Reaching.{AreReachedPairsTo, StandOnce, is_same_pair, with_all, with_last}
@@ -11,7 +11,7 @@ use Rattle.spectro_theory.proofs.PutLast.{length-with_all, with_all-grows}
 use Rattle.spectro_theory.proofs.Reaching.{fronts-begin, put_last, reaching-begins, reaching-ends, reaching-goes_on}
 use Rattle.spectro_pairs.specs.declared.error.ExploreError.{ExploreError}
 use Rattle.spectro_pairs.specs.declared.exploration.Exploration.{Exploration}
-use Rattle.spectro_pairs.specs.Explored.{IsExploredFrom, NameRows, observed_labels, start_pair, start_pairs}
+use Rattle.spectro_pairs.specs.Explored.{IsExploredFrom, IsPairWithin, NameRows, observed_labels, start_pair, start_pairs}
 use Rattle.spectro_pairs.specs.Growth.{AreExplored, HasExpanded, HasStarted, IsPastFollowers, IsPastWith}
 use Rattle.spectro_pairs.specs.Interned.{Interned}
 use Rattle.spectro_pairs.specs.Limits.{IsPastLimit}
@@ -117,11 +117,13 @@ module _ (system : System) (starts : List (ℕ × ℕ)) where
         let first = stands-some (start_pairs starts) 0 (omega (arith, starts-some starts some)) in
         omega (arith, stands-below a.pairs.pairs 0 first.0 (explored.reached.begins 0 first.0 first.1))
 
-    pub explored-all : (weighing : Weighing) (weights : List ℕ) → weights ≡ map (weight_of weighing) (labels_of system.steps)
+    pub explored-all : (weighing : Weighing) (weights : List ℕ) → All (IsPairWithin a.pairs.states) a.pairs.pairs → weights ≡ map (weight_of weighing) (labels_of system.steps) → IsWeighing weighing
         → IsExploredFrom system weighing starts (record { pairs = a.pairs.pairs; followers = a.followers.rows; labels = a.labels.rows; weights = weights })
-    explored-all weighing weights weighed = record {
+    explored-all weighing weights within weighed proper = record {
       reached = (reaching-ends system (start_pairs starts) a.pairs.pairs).0 (subst (AreReachedPairsTo system (start_pairs starts) a.pairs.pairs) all explored.reached);
+      within = subst (λ n. All (IsPairWithin n) a.pairs.pairs) explored.states within;
       followers = all-followers;
       labels = subst (λ l. NameRows (labels_of system.steps) a.labels.rows (map (observed_labels system) l)) whole explored.labels;
       weights = weighed;
+      proper = proper;
     }

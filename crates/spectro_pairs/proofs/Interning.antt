@@ -11,9 +11,10 @@ use Rattle.std.proofs.Math.ListN.{get_or-append}
 use Rattle.spectro_game.specs.Pairs.{Pair}
 use Rattle.spectro_game.specs.Reached.{StandsAt}
 use Rattle.spectro_theory.specs.Reaching.{StandOnce, with_last, is_same_pair}
-use Rattle.spectro_theory.proofs.Places.{stands-below, stands-map, stands-one}
+use Rattle.spectro_theory.proofs.Places.{holds-at, stands-below, stands-map, stands-one}
 use Rattle.spectro_theory.proofs.PutLast.{stands-any, with_last-cases}
 use Rattle.spectro_pairs.specs.declared.pairs.Key.{Key}
+use Rattle.spectro_pairs.specs.Explored.{IsPairWithin, IsSetWithin}
 use Rattle.spectro_pairs.specs.Growth.{pair_of}
 use Rattle.spectro_pairs.specs.Interned.{IsPairAt, pair_at, pairs_of}
 use Rattle.spectro_pairs.proofs.Sets.{set-equal, set-itself}
@@ -57,6 +58,13 @@ pub pair-here : (pairs : List Pair) (k state : ℕ) (set : List ℕ) → IsPairA
 pair-here pairs k state set (x, here, same_state) (y, also, same_set) =
     let e : y ≡ x = stands-one pairs k y x also here in
     subst (StandsAt pairs k) (λ i. record { state = same_state i; set = (sym (ap (λ (z : Pair). z.set) e) ∙ same_set) i }) here
+
+-- they are within what all pairs are within
+pub state-within : (states : ℕ) (pairs : List Pair) (k state : ℕ) → All (IsPairWithin states) pairs → IsPairAt pairs k (λ x. x.state ≡ state) → state < states
+state-within states pairs k state all (x, here, same) = subst (λ q. q < states) same (holds-at (IsPairWithin states) pairs k x all here).state
+
+pub set-within : (states : ℕ) (pairs : List Pair) (k : ℕ) (set : List ℕ) → All (IsPairWithin states) pairs → IsPairAt pairs k (λ x. x.set ≡ set) → IsSetWithin states set
+set-within states pairs k set all (x, here, same) = subst (IsSetWithin states) same (holds-at (IsPairWithin states) pairs k x all here).set
 
 -- ---- the sets of the numbers
 pub pair_at-set : (lists : List (List ℕ)) (state n : ℕ) (set : List ℕ) → StandsAt lists n set → pair_at lists state n ≡ record { state = state; set = set }

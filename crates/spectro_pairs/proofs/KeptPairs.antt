@@ -5,17 +5,19 @@ use Rattle.std.specs.Str.{bytes_eq}
 use Rattle.std.specs.declared.alloc.Global.{Global}
 use Rattle.std.proofs.lemmas.List.Elements.{All-nil, All-weaker}
 use Rattle.std.proofs.lemmas.Bool.{cases_lt}
+use Rattle.std.proofs.lemmas.Option.{get_or_from_slice_get}
 use Rattle.std.proofs.Math.Nat.{pow-le-pow_right}
 use Rattle.spectro_game.specs.Pairs.{Pair, weight, size}
 use Rattle.spectro_game.specs.Reached.{StandsAt}
 use Rattle.spectro_theory.specs.Reaching.{StandOnce, with_last, is_same_pair}
+use Rattle.spectro_theory.proofs.Places.{holds-at, stands-some}
 use Rattle.spectro_theory.proofs.PutLast.{All-with_last, length-with_all, once-with_last, with_all-one, with_last-known, with_last-new}
 use Rattle.spectro_theory.proofs.Sizes.{few_members, half-size, size-append, size-one}
 use Rattle.spectro_pairs.specs.declared.pairs.Key.{Key}
-use Rattle.spectro_pairs.specs.Explored.{IsSetWithin}
+use Rattle.spectro_pairs.specs.Explored.{IsSetWithin, IsPairWithin}
 use Rattle.spectro_pairs.specs.Interned.{AreInterned, lists_of, pair_at, pairs_of}
 use Rattle.spectro_pairs.proofs.Sets.{set-equal, set-itself, stands-lists}
-use Rattle.spectro_pairs.proofs.Interning.{any-pairs, is_same_key, length-pairs_of, pair_at-set, pairs_of-with_key, pairs_of-with_last, same_key-equal, same_key-itself}
+use Rattle.spectro_pairs.proofs.Interning.{any-pairs, is_same_key, length-pairs_of, pair_at-set, pairs_of-with_key, pairs_of-with_last, same_key-equal, same_key-itself, stands-pairs}
 
 -- nothing is kept at first
 pub interned-nil : (states limit : ℕ) (sets : List (Vec ℕ Global)) (keys : List Key) → sets ≡ [] → keys ≡ [] → limit ≤ 1000000 → AreInterned states limit 0 sets keys
@@ -51,6 +53,20 @@ weight-low x n r members few many = elim (cases_lt n 20) [ inl below ↦ exact (
         let power : 2 ^ 20 ≤ 2 ^ n = pow-le-pow_right (lit< tt) past in
         let whole = same in
         (omega arith, λ m. absurd (omega arith))
+
+-- each pair is within the states
+pub pairs-within : (states limit n : ℕ) (sets : List (Vec ℕ Global)) (keys : List Key) → AreInterned states limit n sets keys → All (IsPairWithin states) (pairs_of (lists_of sets) keys)
+unfolding pair_at
+pairs-within states limit n sets keys well k d within =
+    let lists = lists_of sets in
+    let at = stands-some keys k (omega (arith, length-pairs_of lists keys, within)) in
+    let here = stands-pairs lists keys k at.0 at.1 in
+    let set_below = holds-at (λ (key : Key). key.set < length lists) keys k at.0 well.numbered at.1 in
+    let one : IsPairWithin states (pair_at lists at.0.state at.0.set) = record {
+      state = holds-at (λ (key : Key). key.state < states) keys k at.0 well.in_range at.1;
+      set = well.within at.0.set [] set_below;
+    } in
+    subst (IsPairWithin states) (sym (get_or_from_slice_get (pairs_of lists keys) k (pair_at lists at.0.state at.0.set) d here)) one
 
 module _ {states limit n : ℕ} {sets : List (Vec ℕ Global)} {keys : List Key} (well : AreInterned states limit n sets keys) where
   pub half-limit : 2 * length keys ≤ limit

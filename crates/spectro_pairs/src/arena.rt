@@ -1,4 +1,4 @@
-ghost use Rattle.std.specs.Prelude.{◌≡◌, ◌<◌, ◌≤◌, ◌^◌, ◌==◌, not, length, filter, take, position};
+ghost use Rattle.std.specs.Prelude.{◌≡◌, ◌<◌, ◌≤◌, ◌^◌, ◌==◌, not, length, filter, take, position, All};
 ghost use Rattle.std.specs.List.Sorted.{IsStrictlyIncreasing};
 ghost use Rattle.spectro_game.specs.Pairs.{size, observed};
 ghost use Rattle.spectro_theory.specs.Reaching.{is_same_pair};
@@ -63,7 +63,8 @@ impl Arena {
     /// The state of pair `k`.
     pub fn state(&self, k: u32) -> u32
         requires { k < length self.now.pairs }
-        ensures { IsPairAt self.now.pairs k (λ pair. pair.state ≡ result) }
+        ensures value { IsPairAt self.now.pairs k (λ pair. pair.state ≡ result) }
+        ensures in_range { FromEach self.now (λ system weighing. result < system.states) }
     {
         self.pairs.state(k)
     }
@@ -73,6 +74,7 @@ impl Arena {
         requires { k < length self.now.pairs }
         ensures value { IsPairAt self.now.pairs k (λ pair. pair.set ≡ result.now) }
         ensures rises { IsStrictlyIncreasing result.now }
+        ensures in_range { FromEach self.now (λ system weighing. All (λ q. q < system.states) result.now) }
         ensures few { length result.now ≤ 19 }
     {
         self.pairs.set(k)

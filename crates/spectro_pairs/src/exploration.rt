@@ -119,8 +119,7 @@ impl Exploration {
         let mut subset = SmallVec::new(alloc);
         for mask in 1..1 << set.len() {
             take_subset(set, mask, &mut subset)?;
-            let subset = self.pairs.number_set(subset.as_slice())?;
-            self.add(state, subset)?;
+            self.add_pair(state, subset.as_slice())?;
         }
         Ok(())
     }
@@ -132,12 +131,23 @@ impl Exploration {
         ensures ok { OnOk result (HasReached self.old self.new (swaps (pair_of state set.now)) []) }
         ensures limit { IfErr result (λ e. IsPastWith e self.old (swaps (pair_of state set.now))) }
     {
-        let alone = self.pairs.number_set(&[state])?;
         for q in set {
             if *q != state {
-                self.add(*q, alone)?;
+                self.add_pair(*q, &[state])?;
             }
         }
+        Ok(())
+    }
+
+    // Reaches the pair of the state and the set, and puts its number into the open row.
+    fn add_pair(&mut self, state: u32, set: &[u32]) -> Result<(), ExploreError>
+        requires state { state < self.old.pairs.states }
+        requires set { IsSetWithin self.old.pairs.states set.now }
+        ensures ok { OnOk result (HasReached self.old self.new (pair_of state set.now ∷ []) []) }
+        ensures limit { IfErr result (λ e. IsPastWith e self.old (pair_of state set.now ∷ [])) }
+    {
+        let set_no = self.pairs.number_set(set)?;
+        self.add(state, set_no)?;
         Ok(())
     }
 

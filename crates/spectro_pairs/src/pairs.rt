@@ -1,9 +1,9 @@
-ghost use Rattle.std.specs.Prelude.{◌≡◌, ◌<◌, ◌≤◌, ◌+◌, ◌*◌, ◌^◌, ◌==◌, [], if◌then◌else◌, length, position, slice_get, Some, IfOk, IfErr, OnOk, OnErr};
+ghost use Rattle.std.specs.Prelude.{◌≡◌, ◌<◌, ◌≤◌, ◌+◌, ◌*◌, ◌^◌, ◌==◌, [], if◌then◌else◌, length, position, slice_get, All, Some, IfOk, IfErr, OnOk, OnErr};
 ghost use Rattle.std.specs.Str.{bytes_eq};
 ghost use Rattle.spectro_game.specs.Pairs.{size};
 ghost use Rattle.spectro_game.specs.Reached.{StandsAt};
 ghost use Rattle.spectro_theory.specs.Reaching.{with_last, is_same_pair};
-ghost use Rattle.spectro_pairs.specs.Explored.{IsSetWithin};
+ghost use Rattle.spectro_pairs.specs.Explored.{IsSetWithin, IsPairWithin};
 ghost use Rattle.spectro_pairs.specs.Interned.{Interned, pair_at, IsPairAt};
 ghost use Rattle.spectro_pairs.specs.Limits.{IsPastLimit};
 
@@ -58,6 +58,7 @@ impl Pairs {
     /// How many pairs there are.
     pub(crate) fn len(&self) -> u32
         ensures value { result ≡ length self.now.pairs }
+        ensures within { All (IsPairWithin self.now.states) self.now.pairs }
         ensures half { 2 * result ≤ self.now.limit }
         ensures limit { size self.now.pairs ≤ self.now.limit }
         ensures bound { self.now.limit ≤ 1000000 }

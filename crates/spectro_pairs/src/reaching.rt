@@ -1,5 +1,5 @@
 ghost use Rattle.std.specs.Prelude.{◌≡◌, ◌≢◌, ◌<◌, ◌≤◌, List, [], map, All, IfOk, IfErr};
-ghost use Rattle.spectro_spec.specs.Weighing.{weight_of};
+ghost use Rattle.spectro_spec.specs.Weighing.{IsWeighing, weight_of};
 ghost use Rattle.spectro_game.specs.Pairs.{Pair, AreReachedPairs, size};
 ghost use Rattle.spectro_lts.specs.Labels.{labels_of};
 ghost use Rattle.spectro_pairs.specs.Explored.{IsExploredFrom, start_pairs};
@@ -49,11 +49,14 @@ pub fn explore(
 
 // The weight of each label.
 fn label_weights(alloc: Global, lts: &Lts, weights: &Weights) -> Result<Vec<u8>, AllocError>
-    ensures { IfOk result (λ bytes. bytes.items ≡ map (weight_of weights.now) (labels_of lts.now.steps)) }
+    ensures bytes { IfOk result (λ bytes. bytes.items ≡ map (weight_of weights.now) (labels_of lts.now.steps)) }
+    ensures proper { IfOk result (λ _. IsWeighing weights.now) }
 {
     let mut bytes = Vec::with_capacity(alloc, lts.label_count() as usize)?;
     for no in 0..lts.label_count() {
         bytes.push(weights.of(lts.label(no)))?;
     }
+    // That each weight is at most 255 is known from a call of `of`, also where there is no label.
+    prove!(weights.of("") <= 255);
     Ok(bytes)
 }

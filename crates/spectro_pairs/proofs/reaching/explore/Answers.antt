@@ -76,7 +76,7 @@ invariant_of-result c =
       system = c.args.lts.now;
       weighing = c.args.weights.now;
       starts = c.args.starts.now;
-      source = explored-all c.args.lts.now c.args.starts.now c.loop-k.exploration c.loop-k.k c.loop-k.invariant.explored all c.args.weights.now c.in_ok-weights.weights.items c.in_ok-weights.ensures;
+      source = explored-all c.args.lts.now c.args.starts.now c.loop-k.exploration c.loop-k.k c.loop-k.invariant.explored all c.args.weights.now c.in_ok-weights.weights.items c.len.ensures.within c.in_ok-weights.ensures.bytes c.in_ok-weights.ensures.proper;
       bound = omega (arith, c.step_count.ensures.value, c.step_count.ensures.bound);
       preds = c.in_ok-preds.ensures.rows;
     }
@@ -84,4 +84,4 @@ invariant_of-result c =
 pub returns-clause-explored : goal.returns-clause-explored
 returns-clause-explored c =
     let all = explored_all (goal.at.returns-clause-explored c).After-loop-k in
-    explored-all c.args.lts.now c.args.starts.now c.loop-k.exploration c.loop-k.k c.loop-k.invariant.explored all c.args.weights.now c.in_ok-weights.weights.items c.in_ok-weights.ensures
+    explored-all c.args.lts.now c.args.starts.now c.loop-k.exploration c.loop-k.k c.loop-k.invariant.explored all c.args.weights.now c.in_ok-weights.weights.items c.len.ensures.within c.in_ok-weights.ensures.bytes c.in_ok-weights.ensures.proper

@@ -21,7 +21,7 @@ found c =
     let source = subst (IsExploredFrom known.system known.weighing known.starts) c.self.view_is known.source in
     swap-from known.system known.weighing known.starts c.args.self.now c.args.k c.args.i c.row.result.now c.observation_count.result c.state-state.result c.others_before-others.result
     c.set-set.result.now source (ap (λ (e : Explored). slice_get e.followers c.args.k) (sym c.self.view_is) ∙ c.row.ensures)
-    (c.observation_count.ensures.count known.system known.weighing known.starts source) c.state-state.ensures c.set-set.ensures.value c.requires.place c.if-set-i.false c.set-set.ensures.few
+    (c.observation_count.ensures.count known.system known.weighing known.starts source) c.state-state.ensures.value c.set-set.ensures.value c.requires.place c.if-set-i.false c.set-set.ensures.few
     c.others_before-others.ensures
 
 pub overflow_add-result : goal.overflow_add-result
