@@ -8,7 +8,7 @@ use Rattle.spectro_spec.specs.Pricing.{price}
 use Rattle.spectro_spec.specs.Weighing.{Weighing}
 use Rattle.spectro_theory.specs.LawsOfPairs.{ReachedPairsAreOne}
 use Rattle.spectro_io.specs.Shelves.{Texts}
-use Rattle.spectro_aut.specs.Laws.{SystemsAreOne, FirstFaultsAreOne, TextsHaveNoFault}
+use Rattle.spectro_aut.specs.Laws.{EachTextHasAtMostOneSystem, EachTextHasAtMostOneFirstFault, TextsOfSystemsHaveNoFault}
 use Rattle.spectro_aut.specs.Written.{text_of}
 use Rattle.spectro_hmltext.specs.Laws as formulas
 use Rattle.spectro_hmltext.specs.FormulaTexts.{IsFormulaText}
@@ -45,7 +45,7 @@ same_answer P false true first second = let wrong : IsTrue false = first.1 (seco
 same_answer P false false first second = refl
 
 -- ---- the text of a formula
-module _ (one_formula : formulas.FormulasAreOne) (one_fault : formulas.FirstFaultsAreOne) (no_fault : formulas.TextsHaveNoFault) where
+module _ (one_formula : formulas.EachTextHasAtMostOneFormula) (one_fault : formulas.EachTextHasAtMostOneFirstFault) (no_fault : formulas.TextsOfFormulasHaveNoFault) where
   same_formula_refusal : (text : List ℕ) (one other : Status) → RefusesFormula text one → RefusesFormula text other → one ≡ other
   same_formula_refusal text one other first second =
       let same : first.0 ≡ second.0 = one_fault text first.0 second.0 first.1 second.1 in
@@ -55,7 +55,7 @@ module _ (one_formula : formulas.FormulasAreOne) (one_fault : formulas.FirstFaul
   refused_formula text formula status is refused = no_fault text formula refused.0 is refused.1
 
 -- ---- the text of weights
-module _ (one_weighing : weightings.WeighingsAreOne) (one_fault : weightings.FirstFaultsAreOne) (no_fault : weightings.TextsHaveNoFault) where
+module _ (one_weighing : weightings.EachTextHasAtMostOneWeighing) (one_fault : weightings.EachTextHasAtMostOneFirstFault) (no_fault : weightings.TextsOfWeighingsHaveNoFault) where
   same_weighing : (texts : Texts) (weights : Option Word) (one other : Weighing) → GivesWeighing texts weights one → GivesWeighing texts weights other → one ≡ other
   same_weighing texts None one other first second = first ∙ sym second
   same_weighing texts (Some name) one other first second =
@@ -79,15 +79,15 @@ module _ (one_weighing : weightings.WeighingsAreOne) (one_fault : weightings.Fir
       no_fault gives.0 weighing held.0 gives.2 held.1
 
 module _
-    (one_system : SystemsAreOne)
-    (one_fault : FirstFaultsAreOne)
-    (no_fault : TextsHaveNoFault)
-    (one_formula : formulas.FormulasAreOne)
-    (one_formula_fault : formulas.FirstFaultsAreOne)
-    (no_formula_fault : formulas.TextsHaveNoFault)
-    (one_weighing : weightings.WeighingsAreOne)
-    (one_weight_fault : weightings.FirstFaultsAreOne)
-    (no_weight_fault : weightings.TextsHaveNoFault)
+    (one_system : EachTextHasAtMostOneSystem)
+    (one_fault : EachTextHasAtMostOneFirstFault)
+    (no_fault : TextsOfSystemsHaveNoFault)
+    (one_formula : formulas.EachTextHasAtMostOneFormula)
+    (one_formula_fault : formulas.EachTextHasAtMostOneFirstFault)
+    (no_formula_fault : formulas.TextsOfFormulasHaveNoFault)
+    (one_weighing : weightings.EachTextHasAtMostOneWeighing)
+    (one_weight_fault : weightings.EachTextHasAtMostOneFirstFault)
+    (no_weight_fault : weightings.TextsOfWeighingsHaveNoFault)
     (one_list : ReachedPairsAreOne)
   where
     module _ (texts : Texts) (word : Word) (weights : Option Word) where

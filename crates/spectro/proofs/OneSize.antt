@@ -6,7 +6,7 @@ use Rattle.spectro_game.specs.Pairs as game
 use Rattle.spectro_game.specs.Pairs.{Pair}
 use Rattle.spectro_theory.specs.LawsOfPairs.{ReachedPairsAreOne}
 use Rattle.spectro_io.specs.Shelves.{Texts}
-use Rattle.spectro_aut.specs.Laws.{SystemsAreOne, FirstFaultsAreOne, TextsHaveNoFault}
+use Rattle.spectro_aut.specs.Laws.{EachTextHasAtMostOneSystem, EachTextHasAtMostOneFirstFault, TextsOfSystemsHaveNoFault}
 use Rattle.spectro.specs.declared.status.Status.{Status}
 use Rattle.spectro.specs.declared.status.Which.TheVariants.{Left, Right}
 use Rattle.spectro.specs.Refusals.{HoldsSystem}
@@ -14,7 +14,7 @@ use Rattle.spectro.specs.Commands.Size.{SizeGives, AreCompared, size_line, no_le
 use Rattle.spectro.specs.Words.{Word}
 use Rattle.spectro.proofs.SystemTexts.{refused_file, same_file_refusal, same_held}
 
-module _ (one_system : SystemsAreOne) (one_fault : FirstFaultsAreOne) (no_fault : TextsHaveNoFault) (one_list : ReachedPairsAreOne) where
+module _ (one_system : EachTextHasAtMostOneSystem) (one_fault : EachTextHasAtMostOneFirstFault) (no_fault : TextsOfSystemsHaveNoFault) (one_list : ReachedPairsAreOne) where
   module _ (texts : Texts) (left right : Word) (limit : ℕ) where
     same_pairs : (first second first' second' : System) (pairs pairs' : List Pair) → HoldsSystem (texts left) first → HoldsSystem (texts right) second → HoldsSystem (texts left) first' → HoldsSystem (texts right) second'
         → AreCompared first second pairs → AreCompared first' second' pairs' → pairs ≡ pairs'

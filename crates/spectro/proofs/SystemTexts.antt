@@ -6,7 +6,7 @@ use Rattle.spectro_io.specs.Limits.{read_limit}
 use Rattle.spectro_io.specs.Shelves.{Texts}
 use Rattle.spectro_spec.specs.System.{System}
 use Rattle.spectro_aut.specs.Faults.{IsFirstFault}
-use Rattle.spectro_aut.specs.Laws.{FirstFaultsAreOne, SystemsAreOne, TextsHaveNoFault}
+use Rattle.spectro_aut.specs.Laws.{EachTextHasAtMostOneFirstFault, EachTextHasAtMostOneSystem, TextsOfSystemsHaveNoFault}
 use Rattle.spectro_aut.specs.declared.error.AutFault.{AutFault}
 use Rattle.spectro_aut.proofs.LongTexts.{fault_of_read_front, read_front_no_text}
 use Rattle.spectro.specs.declared.status.Status.{Status}
@@ -33,11 +33,11 @@ pub RefusesSystem-whole : (which : Which) (text bytes : List ℕ) (status : Stat
 RefusesSystem-whole which text bytes status front refused = (refused.0, fault-whole text bytes refused.0 front refused.1, refused.2)
 
 -- a text that is refused is of no system
-refused_text : TextsHaveNoFault → (which : Which) (text : List ℕ) (status : Status) (system : System) → RefusesSystem which text status → IsTextOf text system → ⊥
+refused_text : TextsOfSystemsHaveNoFault → (which : Which) (text : List ℕ) (status : Status) (system : System) → RefusesSystem which text status → IsTextOf text system → ⊥
 refused_text no_fault which text status system refused is = no_fault text system refused.0 is refused.1
 
 -- a text is refused in one way
-same_refusal : FirstFaultsAreOne → (which : Which) (text : List ℕ) (one other : Status) → RefusesSystem which text one → RefusesSystem which text other → one ≡ other
+same_refusal : EachTextHasAtMostOneFirstFault → (which : Which) (text : List ℕ) (one other : Status) → RefusesSystem which text one → RefusesSystem which text other → one ≡ other
 same_refusal one_fault which text one other first second =
     let same : first.0 ≡ second.0 = one_fault text first.0 second.0 first.1 second.1 in
     first.2 ∙ ap (λ (fault : AutFault). BadText (record { which = which; at = fault.line; kind = kinds.Aut fault.kind })) same ∙ sym second.2
@@ -54,14 +54,14 @@ system_refused told name which bytes before now status held (inr is) =
     stops.refused _ is.2 (told_map told (λ texts held. subst (λ text. RefusesFile which text status) (sym held.1) (RefusesSystem-whole which held.0 bytes status held.2 is)) held)
 
 -- ---- what a name holds
-pub same_held : SystemsAreOne → (held : Option (List ℕ)) (one other : System) → HoldsSystem held one → HoldsSystem held other → one ≡ other
+pub same_held : EachTextHasAtMostOneSystem → (held : Option (List ℕ)) (one other : System) → HoldsSystem held one → HoldsSystem held other → one ≡ other
 same_held one_system held one other first second =
     let text : first.0 ≡ second.0 = same_Some first.0 second.0 (sym first.1 ∙ second.1) in
     one_system second.0 one other (subst (λ text. IsTextOf text one) text first.2) second.2
 
-pub same_file_refusal : FirstFaultsAreOne → (which : Which) (held : Option (List ℕ)) (one other : Status) → RefusesFile which held one → RefusesFile which held other → one ≡ other
+pub same_file_refusal : EachTextHasAtMostOneFirstFault → (which : Which) (held : Option (List ℕ)) (one other : Status) → RefusesFile which held one → RefusesFile which held other → one ≡ other
 same_file_refusal one_fault which None one other first second = first ∙ sym second
 same_file_refusal one_fault which (Some text) one other first second = same_refusal one_fault which text one other first second
 
-pub refused_file : TextsHaveNoFault → (which : Which) (held : Option (List ℕ)) (status : Status) (system : System) → RefusesFile which held status → HoldsSystem held system → ⊥
+pub refused_file : TextsOfSystemsHaveNoFault → (which : Which) (held : Option (List ℕ)) (status : Status) (system : System) → RefusesFile which held status → HoldsSystem held system → ⊥
 refused_file no_fault which held status system refuses holds = refused_text no_fault which holds.0 status system (subst (λ held. RefusesFile which held status) holds.1 refuses) holds.2

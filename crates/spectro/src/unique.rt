@@ -4,7 +4,10 @@ ghost use Rattle.spectro.specs.declared.status.Status.{Status};
 ghost use Rattle.spectro.specs.Outcome.{IsOutcome};
 ghost use Rattle.spectro.specs.Words.{Word};
 
-use spectro_aut::{first_faults_are_one, systems_are_one, texts_have_no_fault};
+use spectro_aut::{
+    a_text_has_at_most_one_first_fault, a_text_has_at_most_one_system,
+    texts_of_systems_have_no_fault,
+};
 use spectro_hmltext as formulas;
 use spectro_theory::reached_pairs_are_one;
 use spectro_weights as weights;
@@ -14,14 +17,14 @@ pub fn one_outcome()
     ensures status { (words : List Word) (texts : Texts) (one other : Status) (bytes more : List ℕ) → IsOutcome words texts one bytes → IsOutcome words texts other more → one ≡ other }
     ensures bytes { (words : List Word) (texts : Texts) (one other : Status) (bytes more : List ℕ) → IsOutcome words texts one bytes → IsOutcome words texts other more → bytes ≡ more }
 {
-    systems_are_one();
-    first_faults_are_one();
-    texts_have_no_fault();
-    formulas::formulas_are_one();
-    formulas::first_faults_are_one();
-    formulas::texts_have_no_fault();
-    weights::weighings_are_one();
-    weights::first_faults_are_one();
-    weights::texts_have_no_fault();
+    a_text_has_at_most_one_system();
+    a_text_has_at_most_one_first_fault();
+    texts_of_systems_have_no_fault();
+    formulas::a_text_has_at_most_one_formula();
+    formulas::a_text_has_at_most_one_first_fault();
+    formulas::texts_of_formulas_have_no_fault();
+    weights::a_text_has_at_most_one_weighing();
+    weights::a_text_has_at_most_one_first_fault();
+    weights::texts_of_weighings_have_no_fault();
     reached_pairs_are_one();
 }

@@ -7,16 +7,16 @@ use Rattle.spectro_aut.specs.Faults.{IsFirstFault}
 use Rattle.spectro_aut.specs.declared.error.AutFault.{AutFault}
 
 -- a text is of at most one system
-abbrev pub SystemsAreOne : Type 0
-SystemsAreOne = (text : List ℕ) (one other : System) → IsText text one → IsText text other → one ≡ other
+abbrev pub EachTextHasAtMostOneSystem : Type 0
+EachTextHasAtMostOneSystem = (text : List ℕ) (one other : System) → IsText text one → IsText text other → one ≡ other
 
 -- a text has at most one first fault
-abbrev pub FirstFaultsAreOne : Type 0
-FirstFaultsAreOne = (text : List ℕ) (one other : AutFault) → IsFirstFault text one → IsFirstFault text other → one ≡ other
+abbrev pub EachTextHasAtMostOneFirstFault : Type 0
+EachTextHasAtMostOneFirstFault = (text : List ℕ) (one other : AutFault) → IsFirstFault text one → IsFirstFault text other → one ≡ other
 
 -- the text of a system has no fault
-abbrev pub TextsHaveNoFault : Type 0
-TextsHaveNoFault = (text : List ℕ) (system : System) (fault : AutFault) → IsText text system → IsFirstFault text fault → ⊥
+abbrev pub TextsOfSystemsHaveNoFault : Type 0
+TextsOfSystemsHaveNoFault = (text : List ℕ) (system : System) (fault : AutFault) → IsText text system → IsFirstFault text fault → ⊥
 
 -- each text is of a system or has a first fault
 abbrev pub EachTextHasASystemOrAFault : Type 0

@@ -1,27 +1,27 @@
 ghost use Rattle.spectro_aut.specs.Laws.{
   EachTextHasASystemOrAFault,
+  EachTextHasAtMostOneFirstFault,
+  EachTextHasAtMostOneSystem,
   FaultsOfFrontsStay,
-  FirstFaultsAreOne,
   LongFrontsAreNoTexts,
-  SystemsAreOne,
   TextsAreShort,
-  TextsHaveNoFault,
+  TextsOfSystemsHaveNoFault,
 };
 ghost use Rattle.spectro_aut.specs.RoundTrip.{TextsKeepTheLimits, WrittenTextsAreRead};
 
 /// A text is of at most one system.
-pub fn systems_are_one()
-    ensures { SystemsAreOne }
+pub fn a_text_has_at_most_one_system()
+    ensures { EachTextHasAtMostOneSystem }
 {}
 
 /// A text has at most one first fault.
-pub fn first_faults_are_one()
-    ensures { FirstFaultsAreOne }
+pub fn a_text_has_at_most_one_first_fault()
+    ensures { EachTextHasAtMostOneFirstFault }
 {}
 
 /// The text of a system has no fault.
-pub fn texts_have_no_fault()
-    ensures { TextsHaveNoFault }
+pub fn texts_of_systems_have_no_fault()
+    ensures { TextsOfSystemsHaveNoFault }
 {}
 
 /// Each text is of a system or has a first fault.

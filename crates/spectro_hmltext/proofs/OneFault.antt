@@ -9,7 +9,7 @@ use Rattle.spectro_hmltext.specs.declared.token.Token.TheVariants.{End}
 use Rattle.spectro_hmltext.specs.Tokens.{token_of}
 use Rattle.spectro_hmltext.specs.FormulaTexts.{IsFormulaText}
 use Rattle.spectro_hmltext.specs.Faults.{IsTextFault, IsFirstFault}
-use Rattle.spectro_hmltext.specs.Laws.{FormulasAreOne, FirstFaultsAreOne, TextsHaveNoFault}
+use Rattle.spectro_hmltext.specs.Laws.{EachTextHasAtMostOneFormula, EachTextHasAtMostOneFirstFault, TextsOfFormulasHaveNoFault}
 use Rattle.spectro_hmltext.proofs.Outcomes.{Outcome, given, fault, misplaced, misplaced_fault, Settles, settles_changed, one_outcome}
 use Rattle.spectro_hmltext.proofs.Readings.{read_formula}
 use Rattle.spectro_hmltext.proofs.OneReading.{formula_settles, formula_fails}
@@ -48,13 +48,13 @@ fault_found text left kind (IsTextFault.behind_formula formula rest stands other
     text_settles text (given formula rest) (fault left kind) (formula_settles formula 1 text rest stands) (ended_at-other (token_of rest) formula rest other ∙ misplaced_fault rest left kind is)
 
 -- two formulas of one text are one
-pub one_formula : FormulasAreOne
+pub one_formula : EachTextHasAtMostOneFormula
 one_formula text one two is_one is_two =
     let same : given one is_one.rest ≡ given two is_two.rest = one_outcome (read_text text) (given one is_one.rest) (given two is_two.rest) (formula_read text one is_one) (formula_read text two is_two) in
     cc
 
 -- a text of a formula has no first fault
-pub no_fault_of_text : TextsHaveNoFault
+pub no_fault_of_text : TextsOfFormulasHaveNoFault
 no_fault_of_text text formula found is (IsFirstFault.too_long long _ _) = let short : length text ≤ 65536 = is.short in omega (arith, short, long)
 no_fault_of_text text formula found is (IsFirstFault.other short left fails sum) =
     let same : given formula is.rest ≡ fault left found.kind = one_outcome (read_text text) (given formula is.rest) (fault left found.kind) (formula_read text formula is) (fault_found text left found.kind fails) in
@@ -64,7 +64,7 @@ same_fault : (one two : TextFault) → one.at ≡ two.at → one.kind ≡ two.ki
 same_fault one two places kinds = ap (λ place. record { at = place; kind = one.kind }) places ∙ ap (λ kind. record { at = two.at; kind = kind }) kinds
 
 -- two first faults of one text are one
-pub one_fault : FirstFaultsAreOne
+pub one_fault : EachTextHasAtMostOneFirstFault
 one_fault text one two (IsFirstFault.too_long _ place kind) (IsFirstFault.too_long _ other_place other_kind) = same_fault one two (place ∙ sym other_place) (kind ∙ sym other_kind)
 one_fault text one two (IsFirstFault.too_long long _ _) (IsFirstFault.other short _ _ _) = absurd (omega (arith, long, short))
 one_fault text one two (IsFirstFault.other short _ _ _) (IsFirstFault.too_long long _ _) = absurd (omega (arith, long, short))

@@ -7,14 +7,14 @@ use Rattle.spectro_hmltext.specs.FormulaTexts.{IsFormulaText}
 use Rattle.spectro_hmltext.specs.Faults.{IsFirstFault}
 use Rattle.spectro_hmltext.specs.Printed.{formula_text, nesting_of, HasLabels}
 
-abbrev pub FormulasAreOne : Type 0
-FormulasAreOne = (text : List ℕ) (one other : Formula) → IsFormulaText text one → IsFormulaText text other → one ≡ other
+abbrev pub EachTextHasAtMostOneFormula : Type 0
+EachTextHasAtMostOneFormula = (text : List ℕ) (one other : Formula) → IsFormulaText text one → IsFormulaText text other → one ≡ other
 
-abbrev pub FirstFaultsAreOne : Type 0
-FirstFaultsAreOne = (text : List ℕ) (one other : TextFault) → IsFirstFault text one → IsFirstFault text other → one ≡ other
+abbrev pub EachTextHasAtMostOneFirstFault : Type 0
+EachTextHasAtMostOneFirstFault = (text : List ℕ) (one other : TextFault) → IsFirstFault text one → IsFirstFault text other → one ≡ other
 
-abbrev pub TextsHaveNoFault : Type 0
-TextsHaveNoFault = (text : List ℕ) (formula : Formula) (fault : TextFault) → IsFormulaText text formula → IsFirstFault text fault → ⊥
+abbrev pub TextsOfFormulasHaveNoFault : Type 0
+TextsOfFormulasHaveNoFault = (text : List ℕ) (formula : Formula) (fault : TextFault) → IsFormulaText text formula → IsFirstFault text fault → ⊥
 
 -- each text of UTF-8 is of a formula or has a first fault
 abbrev pub EachTextHasAFormulaOrAFault : Type 0

@@ -7,16 +7,16 @@ use Rattle.spectro_hmltext.specs.NodeFaults.{IsNodeFault}
 use Rattle.spectro_hmltext.specs.declared.node_line.NodeError.{NodeError}
 
 -- a line is of at most one node at a place
-abbrev pub NodesOfLinesAreOne : Type 0
-NodesOfLinesAreOne = (line : List ℕ) (place : ℕ) (one other : SheetNode) → IsNodeLine line place one → IsNodeLine line place other → one ≡ other
+abbrev pub EachLineHasAtMostOneNode : Type 0
+EachLineHasAtMostOneNode = (line : List ℕ) (place : ℕ) (one other : SheetNode) → IsNodeLine line place one → IsNodeLine line place other → one ≡ other
 
 -- a line has at most one fault at a place
-abbrev pub FaultsOfNodeLinesAreOne : Type 0
-FaultsOfNodeLinesAreOne = (line : List ℕ) (place : ℕ) (one other : NodeError) → IsNodeFault line place one → IsNodeFault line place other → one ≡ other
+abbrev pub EachLineHasAtMostOneFault : Type 0
+EachLineHasAtMostOneFault = (line : List ℕ) (place : ℕ) (one other : NodeError) → IsNodeFault line place one → IsNodeFault line place other → one ≡ other
 
 -- the line of a node has no fault at the place of the node
-abbrev pub NodeLinesHaveNoFault : Type 0
-NodeLinesHaveNoFault = (line : List ℕ) (place : ℕ) (node : SheetNode) (error : NodeError) → IsNodeLine line place node → IsNodeFault line place error → ⊥
+abbrev pub LinesOfNodesHaveNoFault : Type 0
+LinesOfNodesHaveNoFault = (line : List ℕ) (place : ℕ) (node : SheetNode) (error : NodeError) → IsNodeLine line place node → IsNodeFault line place error → ⊥
 
 -- each line is of a node at a place or has a fault there
 abbrev pub EachLineHasANodeOrAFault : Type 0

@@ -1,25 +1,25 @@
 ghost use Rattle.spectro_hmltext.specs.Laws.{
   EachTextHasAFormulaOrAFault,
-  FirstFaultsAreOne,
-  FormulasAreOne,
+  EachTextHasAtMostOneFirstFault,
+  EachTextHasAtMostOneFormula,
   PrintedTextsAreRead,
   PrintedTextsAreShort,
-  TextsHaveNoFault,
+  TextsOfFormulasHaveNoFault,
 };
 
 /// A text is of at most one formula.
-pub fn formulas_are_one()
-    ensures { FormulasAreOne }
+pub fn a_text_has_at_most_one_formula()
+    ensures { EachTextHasAtMostOneFormula }
 {}
 
 /// A text has at most one first fault.
-pub fn first_faults_are_one()
-    ensures { FirstFaultsAreOne }
+pub fn a_text_has_at_most_one_first_fault()
+    ensures { EachTextHasAtMostOneFirstFault }
 {}
 
 /// The text of a formula has no fault.
-pub fn texts_have_no_fault()
-    ensures { TextsHaveNoFault }
+pub fn texts_of_formulas_have_no_fault()
+    ensures { TextsOfFormulasHaveNoFault }
 {}
 
 /// Each text of UTF-8 is of a formula or has a first fault.

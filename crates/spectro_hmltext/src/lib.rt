@@ -17,13 +17,14 @@ mod token;
 pub use error::{ParseError, TextFault, TextKind};
 pub use label::write_label;
 pub use laws::{
-    a_text_has_a_formula_or_a_fault, first_faults_are_one, formulas_are_one,
-    printed_texts_are_read, printed_texts_are_short, texts_have_no_fault,
+    a_text_has_a_formula_or_a_fault, a_text_has_at_most_one_first_fault,
+    a_text_has_at_most_one_formula, printed_texts_are_read, printed_texts_are_short,
+    texts_of_formulas_have_no_fault,
 };
 pub use node_line::{NodeError, parse_node_line};
 pub use node_line_laws::{
-    a_line_has_a_node_or_a_fault, faults_of_node_lines_are_one, node_lines_have_no_fault,
-    nodes_of_lines_are_one, written_nodes_are_read,
+    a_line_has_a_node_or_a_fault, a_line_has_at_most_one_fault, a_line_has_at_most_one_node,
+    lines_of_nodes_have_no_fault, written_nodes_are_read,
 };
 pub use parser::{MAX_TEXT_BYTES, Parsed, parse};
 pub use printer::{FormulaText, Printed, print};

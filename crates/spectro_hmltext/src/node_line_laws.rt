@@ -1,24 +1,24 @@
 ghost use Rattle.spectro_hmltext.specs.NodeLaws.{
   EachLineHasANodeOrAFault,
-  FaultsOfNodeLinesAreOne,
-  NodeLinesHaveNoFault,
-  NodesOfLinesAreOne,
+  EachLineHasAtMostOneFault,
+  EachLineHasAtMostOneNode,
+  LinesOfNodesHaveNoFault,
   WrittenNodesAreRead,
 };
 
 /// A line is of at most one node at a place.
-pub fn nodes_of_lines_are_one()
-    ensures { NodesOfLinesAreOne }
+pub fn a_line_has_at_most_one_node()
+    ensures { EachLineHasAtMostOneNode }
 {}
 
 /// A line has at most one fault at a place.
-pub fn faults_of_node_lines_are_one()
-    ensures { FaultsOfNodeLinesAreOne }
+pub fn a_line_has_at_most_one_fault()
+    ensures { EachLineHasAtMostOneFault }
 {}
 
 /// The line of a node has no fault at the place of the node.
-pub fn node_lines_have_no_fault()
-    ensures { NodeLinesHaveNoFault }
+pub fn lines_of_nodes_have_no_fault()
+    ensures { LinesOfNodesHaveNoFault }
 {}
 
 /// Each line is of a node at a place or has a fault there.

@@ -7,16 +7,16 @@ use Rattle.spectro_weights.specs.Faults.{IsFirstFault}
 use Rattle.spectro_weights.specs.declared.error.WeightFault.{WeightFault}
 
 -- a text is of at most one weighing
-abbrev pub WeighingsAreOne : Type 0
-WeighingsAreOne = (text : List ℕ) (one other : Weighing) → IsWeightText text one → IsWeightText text other → one ≡ other
+abbrev pub EachTextHasAtMostOneWeighing : Type 0
+EachTextHasAtMostOneWeighing = (text : List ℕ) (one other : Weighing) → IsWeightText text one → IsWeightText text other → one ≡ other
 
 -- a text has at most one first fault
-abbrev pub FirstFaultsAreOne : Type 0
-FirstFaultsAreOne = (text : List ℕ) (one other : WeightFault) → IsFirstFault text one → IsFirstFault text other → one ≡ other
+abbrev pub EachTextHasAtMostOneFirstFault : Type 0
+EachTextHasAtMostOneFirstFault = (text : List ℕ) (one other : WeightFault) → IsFirstFault text one → IsFirstFault text other → one ≡ other
 
 -- the text of a weighing has no fault
-abbrev pub TextsHaveNoFault : Type 0
-TextsHaveNoFault = (text : List ℕ) (weighing : Weighing) (fault : WeightFault) → IsWeightText text weighing → IsFirstFault text fault → ⊥
+abbrev pub TextsOfWeighingsHaveNoFault : Type 0
+TextsOfWeighingsHaveNoFault = (text : List ℕ) (weighing : Weighing) (fault : WeightFault) → IsWeightText text weighing → IsFirstFault text fault → ⊥
 
 -- each text is of a weighing or has a first fault
 abbrev pub EachTextHasAWeighingOrAFault : Type 0

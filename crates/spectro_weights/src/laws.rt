@@ -1,25 +1,25 @@
 ghost use Rattle.spectro_weights.specs.Laws.{
   EachTextHasAWeighingOrAFault,
+  EachTextHasAtMostOneFirstFault,
+  EachTextHasAtMostOneWeighing,
   FaultsOfFrontsStay,
-  FirstFaultsAreOne,
   LongFrontsAreNoTexts,
-  TextsHaveNoFault,
-  WeighingsAreOne,
+  TextsOfWeighingsHaveNoFault,
 };
 
 /// A text is of at most one weighing.
-pub fn weighings_are_one()
-    ensures { WeighingsAreOne }
+pub fn a_text_has_at_most_one_weighing()
+    ensures { EachTextHasAtMostOneWeighing }
 {}
 
 /// A text has at most one first fault.
-pub fn first_faults_are_one()
-    ensures { FirstFaultsAreOne }
+pub fn a_text_has_at_most_one_first_fault()
+    ensures { EachTextHasAtMostOneFirstFault }
 {}
 
 /// The text of a weighing has no fault.
-pub fn texts_have_no_fault()
-    ensures { TextsHaveNoFault }
+pub fn texts_of_weighings_have_no_fault()
+    ensures { TextsOfWeighingsHaveNoFault }
 {}
 
 /// Each text is of a weighing or has a first fault.

@@ -1,5 +1,5 @@
 use Rattle.spectro_hmltext.proofs.NodeLineLaws.{one_node}
-use Rattle.spectro_hmltext.proofs.node_line_laws.nodes_of_lines_are_one.Goals as goal
+use Rattle.spectro_hmltext.proofs.node_line_laws.a_line_has_at_most_one_node.Goals as goal
 
 pub returns : goal.returns
 returns c = one_node

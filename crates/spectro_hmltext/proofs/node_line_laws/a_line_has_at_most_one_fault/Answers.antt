@@ -1,5 +1,5 @@
 use Rattle.spectro_hmltext.proofs.NodeLineLaws.{one_fault}
-use Rattle.spectro_hmltext.proofs.node_line_laws.faults_of_node_lines_are_one.Goals as goal
+use Rattle.spectro_hmltext.proofs.node_line_laws.a_line_has_at_most_one_fault.Goals as goal
 
 pub returns : goal.returns
 returns c = one_fault
