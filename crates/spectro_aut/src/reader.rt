@@ -15,6 +15,3 @@ pub fn read(alloc: Global, bytes: &[u8]) -> Result<Lts, AutError>
     feed.feed(bytes)?;
     feed.finish()
 }
-
-#[cfg(test)]
-mod tests;

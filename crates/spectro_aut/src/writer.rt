@@ -62,6 +62,3 @@ fn put_field<O: Sink>(
     batch.put(before, out)?;
     batch.put_number(u64::from(number), out)
 }
-
-#[cfg(test)]
-mod tests;

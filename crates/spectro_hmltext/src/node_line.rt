@@ -229,6 +229,3 @@ fn do_rise(clauses: &[Clause]) -> bool
     }
     true
 }
-
-#[cfg(test)]
-mod tests;

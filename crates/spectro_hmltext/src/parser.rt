@@ -248,6 +248,3 @@ fn sign(text: &[u8]) -> (bool, &[u8])
         _ => (true, text),
     }
 }
-
-#[cfg(test)]
-mod tests;

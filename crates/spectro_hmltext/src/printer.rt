@@ -186,6 +186,3 @@ fn sign_text(clause: Clause) -> &'static str
 {
     if clause.positive { "" } else { "not " }
 }
-
-#[cfg(test)]
-mod tests;

@@ -95,22 +95,3 @@ fn put_field<O: Sink>(
     batch.put_number(number as u64, out)?;
     batch.put(behind, out)
 }
-
-#[cfg(test)]
-mod tests {
-    use super::print_sheet;
-    use spectro_hml::Sheet;
-    use spectro_io::{Failed, MemSink};
-    use std::test::Fail;
-
-    #[test]
-    fn a_write_that_fails_leaves_a_proper_prefix(rt: HostRuntime) -> Result<(), Fail> {
-        let mut sheet = Sheet::new(rt.alloc());
-        sheet.push_all(&[])?;
-        sheet.push_all(&[])?;
-        let mut sink = MemSink::new(rt.alloc(), 100, 5, &[2])?;
-        assert_eq!(rt; print_sheet(&sheet, &mut sink), Err(Failed));
-        assert_eq!(rt; sink.written(), b"0 all".as_slice());
-        Ok(())
-    }
-}

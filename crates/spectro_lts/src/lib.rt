@@ -9,8 +9,6 @@ mod state_set;
 mod step;
 mod successors;
 mod table;
-#[cfg(test)]
-mod tests;
 
 pub use draft::Draft;
 pub use lts::Lts;

@@ -4,13 +4,27 @@
 #[cfg(test)]
 mod antichains;
 #[cfg(test)]
+mod aut_texts;
+#[cfg(test)]
 mod energies;
+#[cfg(test)]
+mod formula_texts;
+#[cfg(test)]
+mod node_lines;
 #[cfg(test)]
 mod prices;
 #[cfg(test)]
+mod printed_formulas;
+#[cfg(test)]
+mod quoted_labels;
+#[cfg(test)]
 mod sheets;
 #[cfg(test)]
+mod systems;
+#[cfg(test)]
 mod truths;
+#[cfg(test)]
+mod weight_texts;
 #[cfg(test)]
 mod weights;
 #[cfg(test)]

@@ -74,6 +74,3 @@ fn place(weights: &mut Weights, entry: Entry) -> Result<Option<WeightKind>, Allo
     weights.insert(entry.label, entry.weight)?;
     Ok(None)
 }
-
-#[cfg(test)]
-mod tests;

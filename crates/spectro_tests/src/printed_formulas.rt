@@ -1,8 +1,7 @@
 ghost use Rattle.std.specs.Prelude.{◌≡◌};
 
-use super::{Printed, print};
-use crate::parse;
 use spectro_hml::{Clause, Sheet};
+use spectro_hmltext::{Printed, parse, print};
 use std::alloc::{AllocError, Global};
 use std::test::Fail;
 

@@ -1,7 +1,6 @@
-use super::*;
-use crate::print_sheet;
+use spectro_hmltext::{ParseError, TextFault, TextKind, parse, print_sheet};
 use spectro_io::MemSink;
-use std::alloc::AllocError;
+use std::alloc::{AllocError, Global};
 use std::test::Fail;
 
 // Texts of formulas, and the lines of their sheets.

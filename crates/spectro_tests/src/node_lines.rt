@@ -1,6 +1,7 @@
-use super::*;
-use crate::print_sheet;
-use spectro_io::MemSink;
+use spectro_hml::Sheet;
+use spectro_hmltext::{NodeError, parse_node_line, print_sheet};
+use spectro_io::{Failed, MemSink};
+use std::alloc::Global;
 use std::test::Fail;
 
 // Lines of nodes behind two others, and the lines of the sheet with them.
@@ -68,5 +69,16 @@ fn tells_the_fault_that_is_tested_first(rt: HostRuntime) -> Result<(), Fail> {
         let fault = lines_with(rt.alloc(), line).err();
         assert_eq!(rt; fault, Some(expected), "{line:?}");
     }
+    Ok(())
+}
+
+#[test]
+fn a_write_that_fails_leaves_a_proper_prefix(rt: HostRuntime) -> Result<(), Fail> {
+    let mut sheet = Sheet::new(rt.alloc());
+    sheet.push_all(&[])?;
+    sheet.push_all(&[])?;
+    let mut sink = MemSink::new(rt.alloc(), 100, 5, &[2])?;
+    assert_eq!(rt; print_sheet(&sheet, &mut sink), Err(Failed));
+    assert_eq!(rt; sink.written(), b"0 all".as_slice());
     Ok(())
 }

@@ -2,7 +2,7 @@ ghost use Rattle.std.specs.Prelude.{◌≡◌, ◌<◌, ◌≤◌, ◌↔◌, le
 ghost use Rattle.spectro_spec.specs.System.{IsLabel};
 ghost use Rattle.spectro_lts.specs.Labels.{labels_of};
 
-use crate::{Draft, Lts, Step};
+use spectro_lts::{Draft, Lts, Step};
 use std::alloc::Global;
 use std::process::Abort;
 use std::test::Fail;

@@ -1,4 +1,5 @@
-use super::*;
+use spectro_weights::{WeightError, WeightFault, WeightKind, read_weights};
+use std::alloc::{AllocError, Global};
 use std::test::Fail;
 
 // Texts without weights, with the line and the kind of the first fault.

@@ -1,7 +1,7 @@
-use super::*;
-use crate::{AutFault, AutKind, Feed, write};
-use spectro_io::MemSink;
-use std::alloc::AllocError;
+use spectro_aut::{AutError, AutFault, AutKind, Feed, read, write};
+use spectro_io::{Failed, MemSink};
+use spectro_lts::{Draft, Lts};
+use std::alloc::{AllocError, Global};
 use std::test::Fail;
 
 // Texts of systems, and what is written of these.
@@ -255,5 +255,14 @@ fn says_the_line_and_the_fault(rt: HostRuntime) -> Result<(), Fail> {
     };
     let message = format!(in rt.alloc(); "{missing}")?;
     assert_eq!(rt; message.as_str(), "line 3: MissingLines said 3 found 1");
+    Ok(())
+}
+
+#[test]
+fn a_write_that_fails_leaves_a_proper_prefix(rt: HostRuntime) -> Result<(), Fail> {
+    let lts = Draft::new(rt.alloc(), 12, 11)?.finish()?;
+    let mut sink = MemSink::new(rt.alloc(), 100, 5, &[2])?;
+    assert_eq!(rt; write(&lts, &mut sink), Err(Failed));
+    assert_eq!(rt; sink.written(), b"des (".as_slice());
     Ok(())
 }
