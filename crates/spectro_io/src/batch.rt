@@ -97,6 +97,3 @@ impl Batch {
         self.put(&buffer[start..], out)
     }
 }
-
-#[cfg(test)]
-mod tests;

@@ -214,6 +214,3 @@ impl LineReader {
         Ok(Got::Line)
     }
 }
-
-#[cfg(test)]
-mod tests;

@@ -81,6 +81,3 @@ impl<'a> NumberedLines<'a> {
         })
     }
 }
-
-#[cfg(test)]
-mod tests;

@@ -79,6 +79,3 @@ pub fn token_at(line: &[u8]) -> (&[u8], &[u8])
     let text = trim_start(line);
     text.split_at(first_blank(text).unwrap_or(text.len()))
 }
-
-#[cfg(test)]
-mod tests;

@@ -8,8 +8,6 @@ mod pairs;
 mod reaching;
 mod rows;
 mod subsets;
-#[cfg(test)]
-mod tests;
 mod transposed;
 
 pub use arena::{Arena, Observation};

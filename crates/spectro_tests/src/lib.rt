@@ -4,13 +4,25 @@
 #[cfg(test)]
 mod antichains;
 #[cfg(test)]
+mod arenas;
+#[cfg(test)]
 mod aut_texts;
+#[cfg(test)]
+mod batches;
+#[cfg(test)]
+mod devices;
 #[cfg(test)]
 mod energies;
 #[cfg(test)]
+mod escapes;
+#[cfg(test)]
 mod formula_texts;
 #[cfg(test)]
+mod line_readers;
+#[cfg(test)]
 mod node_lines;
+#[cfg(test)]
+mod numbered_lines;
 #[cfg(test)]
 mod prices;
 #[cfg(test)]
@@ -18,9 +30,13 @@ mod printed_formulas;
 #[cfg(test)]
 mod quoted_labels;
 #[cfg(test)]
+mod samples;
+#[cfg(test)]
 mod sheets;
 #[cfg(test)]
 mod systems;
+#[cfg(test)]
+mod tokens;
 #[cfg(test)]
 mod truths;
 #[cfg(test)]

@@ -1,64 +1,11 @@
-ghost use Rattle.std.specs.Prelude.{◌≡◌, ◌<◌, ◌≤◌, ◌↔◌, length, IsTrue, IfOk};
-ghost use Rattle.spectro_spec.specs.System.{IsLabel};
+ghost use Rattle.std.specs.Prelude.{◌≤◌, ◌↔◌, length, IsTrue};
 ghost use Rattle.spectro_lts.specs.Labels.{labels_of};
 
+use crate::samples::{draft_of, system};
 use spectro_lts::{Draft, Lts, Step};
 use std::alloc::Global;
 use std::process::Abort;
 use std::test::Fail;
-
-// The label of one letter.
-fn label(letter: char) -> &'static str
-    ensures { IsLabel result.now }
-{
-    match letter {
-        'B' => "B",
-        'a' => "a",
-        'b' => "b",
-        _ => "c",
-    }
-}
-
-// Adds a step to the draft of so many states.
-fn add(draft: &mut Draft, states: u32, from: u32, letter: char, to: u32) -> Result<(), Fail>
-    requires { draft.old.states ≡ states }
-    ensures { draft.new.states ≡ states }
-{
-    if from >= states || to >= states {
-        return Err(Fail::new("no such state"));
-    }
-    if draft.step_count() == 2_000_000 || draft.label_count() == 131_072 {
-        return Err(Fail::new("no room"));
-    }
-    draft.add(from, label(letter), to)?;
-    Ok(())
-}
-
-// The draft of the steps.
-fn draft_of(
-    alloc: Global,
-    states: u32,
-    initial: u32,
-    steps: &[(u32, char, u32)],
-) -> Result<Draft, Fail>
-    requires initial { initial < states }
-    requires few { states ≤ 131072 }
-    ensures { IfOk result (λ draft. draft.states ≡ states) }
-{
-    let mut draft = Draft::new(alloc, states, initial)?;
-    for (from, letter, to) in steps {
-        add(&mut draft, states, *from, *letter, *to)?;
-    }
-    Ok(draft)
-}
-
-// The system of the steps.
-fn system(alloc: Global, states: u32, initial: u32, steps: &[(u32, char, u32)]) -> Result<Lts, Fail>
-    requires initial { initial < states }
-    requires few { states ≤ 131072 }
-{
-    Ok(draft_of(alloc, states, initial, steps)?.finish()?)
-}
 
 // There are so many states, the first, and these steps, by the numbers of their labels.
 fn assert_steps(rt: &impl Abort, lts: &Lts, states: u32, initial: u32, rows: &[(u32, u32, u32)]) {

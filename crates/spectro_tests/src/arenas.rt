@@ -1,57 +1,18 @@
 ghost use Rattle.std.specs.Prelude.{◌≡◌, ◌<◌, ◌≤◌, ◌+◌, ◌*◌, length, IfOk};
-ghost use Rattle.spectro_spec.specs.System.{IsLabel};
 
-use crate::{Arena, ExploreError, Observation, explore};
+use crate::samples::{add, system};
 use spectro_lts::{Draft, Lts};
+use spectro_pairs::{Arena, ExploreError, Observation, explore};
 use spectro_weights::Weights;
 use std::alloc::{AllocError, Global};
 use std::process::Abort;
 use std::test::Fail;
 
-// The label of one letter.
-fn label(letter: char) -> &'static str
-    ensures { IsLabel result.now }
-{
-    match letter {
-        'a' => "a",
-        'b' => "b",
-        _ => "c",
-    }
-}
-
-// Adds a step to the draft of so many states.
-fn add(draft: &mut Draft, states: u32, from: u32, letter: char, to: u32) -> Result<(), Fail>
-    requires { draft.old.states ≡ states }
-    ensures { draft.new.states ≡ states }
-{
-    if from >= states || to >= states {
-        return Err(Fail::new("no such state"));
-    }
-    if draft.step_count() == 2_000_000 || draft.label_count() == 131_072 {
-        return Err(Fail::new("no room"));
-    }
-    draft.add(from, label(letter), to)?;
-    Ok(())
-}
-
-// The system of the steps.
-fn system(alloc: Global, states: u32, steps: &[(u32, char, u32)]) -> Result<Lts, Fail>
-    requires some { 1 ≤ states }
-    requires few { states ≤ 131072 }
-    ensures { IfOk result (λ lts. lts.states ≡ states) }
-{
-    let mut draft = Draft::new(alloc, states, 0)?;
-    for (from, letter, to) in steps {
-        add(&mut draft, states, *from, *letter, *to)?;
-    }
-    Ok(draft.finish()?)
-}
-
 // A step under a, and a state without steps.
 fn one_step(alloc: Global) -> Result<Lts, Fail>
     ensures { IfOk result (λ lts. lts.states ≡ 3) }
 {
-    system(alloc, 3, &[(0, 'a', 1)])
+    system(alloc, 3, 0, &[(0, 'a', 1)])
 }
 
 // After a, both b and c, and after a, either b or c. The labels are numbered c, a, b.
@@ -67,14 +28,14 @@ fn both_and_either(alloc: Global) -> Result<Lts, Fail>
         (1, 'b', 3),
         (2, 'c', 3),
     ];
-    system(alloc, 7, &steps)
+    system(alloc, 7, 0, &steps)
 }
 
 // From one state a leads to each.
 fn fan(alloc: Global) -> Result<Lts, Fail>
     ensures { IfOk result (λ lts. lts.states ≡ 3) }
 {
-    system(alloc, 3, &[(0, 'a', 0), (0, 'a', 1), (0, 'a', 2)])
+    system(alloc, 3, 0, &[(0, 'a', 0), (0, 'a', 1), (0, 'a', 2)])
 }
 
 // What comes of exploring the pair of the two states.
@@ -276,7 +237,7 @@ fn turns_no_state_round_with_itself(rt: HostRuntime) -> Result<(), Fail> {
 
 #[test]
 fn takes_each_start_once(rt: HostRuntime) -> Result<(), Fail> {
-    let lts = system(rt.alloc(), 3, &[])?;
+    let lts = system(rt.alloc(), 3, 0, &[])?;
     let weights = Weights::new(rt.alloc());
     let starts = [(1, 0), (0, 0), (1, 0), (0, 0)];
     let arena = explored(explore(rt.alloc(), &lts, &weights, &starts, 1000))?;
@@ -295,22 +256,27 @@ fn at_least(answer: Result<Arena, ExploreError>) -> Option<u64> {
     }
 }
 
-// The eight positions of two states without steps are too many.
-fn assert_too_large(rt: &impl Abort, alloc: Global, lts: &Lts, limit: u32)
+// The same of two states without steps.
+fn at_least_of_two(alloc: Global, lts: &Lts, limit: u32) -> Option<u64>
     requires two { lts.now.states ≡ 2 }
-    requires bound { limit < 8 }
+    requires bound { limit ≤ 1000000 }
 {
     let weights = Weights::new(alloc);
-    let told = at_least(explore_pair(alloc, lts, &weights, 0, 1, limit)).unwrap_or(0);
+    at_least(explore_pair(alloc, lts, &weights, 0, 1, limit))
+}
+
+// Their eight positions are too many.
+fn assert_too_large(rt: &impl Abort, told: Option<u64>, limit: u32) {
+    let told = told.unwrap_or(0);
     assert!(rt; u64::from(limit) < told, "limit {limit}");
     assert!(rt; told <= 8, "limit {limit}");
 }
 
 #[test]
 fn refuses_one_position_above_the_limit(rt: HostRuntime) -> Result<(), Fail> {
-    let lts = system(rt.alloc(), 2, &[])?;
+    let lts = system(rt.alloc(), 2, 0, &[])?;
     for limit in 0..8 {
-        assert_too_large(&rt, rt.alloc(), &lts, limit);
+        assert_too_large(&rt, at_least_of_two(rt.alloc(), &lts, limit), limit);
     }
     Ok(())
 }

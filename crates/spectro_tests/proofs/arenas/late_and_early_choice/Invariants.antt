@@ -1,5 +1,5 @@
 use Rattle.std.proofs.Common.{◌≡◌}
-use Rattle.spectro_pairs.proofs.tests.late_and_early_choice.Given as goal
+use Rattle.spectro_tests.proofs.arenas.late_and_early_choice.Given as goal
 
 abbrev pub invariant-loop-i : goal.invariant-loop-i
 invariant-loop-i l = l.draft.states ≡ l.states

@@ -1,0 +1,71 @@
+ghost use Rattle.std.specs.Prelude.{◌≡◌, ◌<◌, ◌≤◌, IfOk};
+ghost use Rattle.spectro_spec.specs.System.{IsLabel};
+
+use spectro_lts::{Draft, Lts};
+use std::alloc::Global;
+use std::test::Fail;
+
+// The label of one letter.
+pub(crate) fn label(letter: char) -> &'static str
+    ensures { IsLabel result.now }
+{
+    match letter {
+        'B' => "B",
+        'a' => "a",
+        'b' => "b",
+        _ => "c",
+    }
+}
+
+// Adds a step to the draft of so many states.
+pub(crate) fn add(
+    draft: &mut Draft,
+    states: u32,
+    from: u32,
+    letter: char,
+    to: u32,
+) -> Result<(), Fail>
+    requires { draft.old.states ≡ states }
+    ensures { draft.new.states ≡ states }
+{
+    if from >= states || to >= states {
+        return Err(Fail::new("no such state"));
+    }
+    if draft.step_count() == 2_000_000 || draft.label_count() == 131_072 {
+        return Err(Fail::new("no room"));
+    }
+    draft.add(from, label(letter), to)?;
+    Ok(())
+}
+
+// The draft of the steps.
+pub(crate) fn draft_of(
+    alloc: Global,
+    states: u32,
+    initial: u32,
+    steps: &[(u32, char, u32)],
+) -> Result<Draft, Fail>
+    requires initial { initial < states }
+    requires few { states ≤ 131072 }
+    ensures { IfOk result (λ draft. draft.states ≡ states) }
+{
+    let mut draft = Draft::new(alloc, states, initial)?;
+    for (from, letter, to) in steps {
+        add(&mut draft, states, *from, *letter, *to)?;
+    }
+    Ok(draft)
+}
+
+// The system of the steps.
+pub(crate) fn system(
+    alloc: Global,
+    states: u32,
+    initial: u32,
+    steps: &[(u32, char, u32)],
+) -> Result<Lts, Fail>
+    requires initial { initial < states }
+    requires few { states ≤ 131072 }
+    ensures { IfOk result (λ lts. lts.states ≡ states) }
+{
+    Ok(draft_of(alloc, states, initial, steps)?.finish()?)
+}
