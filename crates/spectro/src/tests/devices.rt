@@ -1,20 +1,39 @@
 use crate::devices::{FileShelf, StderrSink, StdinSource, StdoutSink};
 use spectro_io::{Failed, Shelf, Sink, Source};
+use std::process::Abort;
+use std::rt::Files;
 
-// Over the streams and files of whatever runs the test: a folder opens and cannot be read, a device of no bytes can.
-#[test]
-fn real_devices_pass_on_what_the_system_answers(rt: HostRuntime) {
+// How the name opens, and what is read then.
+fn opens<R: Files>(
+    rt: &impl Abort,
+    shelf: &mut FileShelf<'_, R>,
+    name: &str,
+    opened: Result<bool, Failed>,
+    read: Result<usize, Failed>,
+) {
     let mut piece = [0u8; 4];
+    assert_eq!(rt; shelf.open(name), opened, "{name}");
+    assert_eq!(rt; shelf.read(&mut piece), read, "{name}");
+}
+
+// A folder opens and cannot be read, a device of no bytes can.
+#[test]
+fn files_pass_on_what_the_system_answers(rt: HostRuntime) {
     let mut shelf = FileShelf::new(&rt);
-    assert_eq!(rt; shelf.read(&mut piece), Ok(0), "nothing is open");
-    assert_eq!(rt; shelf.open("no such file"), Err(Failed));
-    assert_eq!(rt; shelf.read(&mut piece), Ok(0), "the opening failed");
-    assert_eq!(rt; shelf.open("/dev/null"), Ok(true));
-    assert_eq!(rt; shelf.read(&mut piece), Ok(0), "no bytes are left");
-    assert_eq!(rt; shelf.open("/"), Ok(true));
-    assert_eq!(rt; shelf.read(&mut piece), Err(Failed), "a folder");
+    for (name, opened, read) in [
+        ("no such file", Err(Failed), Ok(0)),
+        ("/dev/null", Ok(true), Ok(0)),
+        ("/", Ok(true), Err(Failed)),
+    ] {
+        opens(&rt, &mut shelf, name, opened, read);
+    }
+}
+
+// Over the streams of whatever runs the test.
+#[test]
+fn streams_pass_on_what_the_system_answers(rt: HostRuntime) {
     let mut input = StdinSource::new(rt.stdin());
-    assert!(rt; input.read(&mut piece).is_ok());
+    assert!(rt; input.read(&mut [0u8; 4]).is_ok());
     let mut out = StdoutSink::new(rt.stdout());
     assert_eq!(rt; out.write(b"."), Ok(1));
     let mut err = StderrSink::new(rt.stderr());
