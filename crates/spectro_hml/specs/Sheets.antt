@@ -1,5 +1,5 @@
 -- Sheets: formulas whose parts are shared. Each node names nodes before it, and stands for the formula that it unfolds to.
-use Rattle.std.specs.Prelude.{ℕ, ◌≡◌, ◌<◌, ◌⊎◌, true, false, List, [], ◌∷◌, ◌++◌, slice_get, slice_index_or, Some, All, fold, if◌then◌else◌}
+use Rattle.std.specs.Prelude.{ℕ, ◌≡◌, ◌<◌, List, [], ◌∷◌, ◌++◌, slice_get, slice_index_or, Some, All, fold, if◌then◌else◌}
 use Rattle.spectro_spec.specs.System.{Label, IsLabel}
 use Rattle.spectro_spec.specs.Formula.{Formula, Clauses, see, all, no_clauses, plus, minus}
 use Rattle.spectro_hml.specs.Clauses.{ClausesRise}
