@@ -11,8 +11,9 @@ use Rattle.std.proofs.Math.ListN.{get_or-append}
 use Rattle.spectro_game.specs.Pairs.{Pair}
 use Rattle.spectro_game.specs.Reached.{StandsAt}
 use Rattle.spectro_theory.specs.Reaching.{StandOnce, with_last, is_same_pair}
-use Rattle.spectro_theory.proofs.Places.{holds-at, stands-below, stands-map, stands-one}
+use Rattle.spectro_theory.proofs.Places.{holds-at, stands-below, stands-map, stands-one, stands-some}
 use Rattle.spectro_theory.proofs.PutLast.{stands-any, with_last-cases}
+use Rattle.spectro_theory.proofs.Reaching.{same_pair-itself}
 use Rattle.spectro_pairs.specs.declared.pairs.Key.{Key}
 use Rattle.spectro_pairs.specs.Explored.{IsPairWithin, IsSetWithin}
 use Rattle.spectro_pairs.specs.Growth.{pair_of}
@@ -147,6 +148,17 @@ module _ (lists : List (List ℕ)) (once : StandOnce lists) where
   position-set key set keys here numbered =
       subst (λ x. position (is_same_key key) keys ≡ position (is_same_pair x) (pairs_of lists keys)) (pair_at-set lists key.state key.set set here)
       (position-pairs key keys (stands-below lists key.set set here) numbered)
+
+  -- where the pair of a key stands, the key does
+  pub key-here : (keys : List Key) (k : ℕ) (key : Key) → key.set < length lists → AreNumbered (length lists) keys → StandsAt (pairs_of lists keys) k (pair_at lists key.state key.set) → StandsAt keys k key
+  key-here keys k key below numbered here =
+      let at = stands-some keys k (omega (arith, stands-below (pairs_of lists keys) k (pair_at lists key.state key.set) here, length-pairs_of lists keys)) in
+      let there = stands-pairs lists keys k at.0 at.1 in
+      let same : pair_at lists key.state key.set ≡ pair_at lists at.0.state at.0.set = stands-one (pairs_of lists keys) k (pair_at lists key.state key.set) (pair_at lists at.0.state at.0.set) here there in
+      let test : is_same_key key at.0 ≡ true =
+      same-pair key at.0 below (holds-at (λ (key : Key). key.set < length lists) keys k at.0 numbered at.1)
+      ∙ ap (is_same_pair (pair_at lists key.state key.set)) (sym same) ∙ same_pair-itself (pair_at lists key.state key.set) in
+      subst (StandsAt keys k) (sym (same_key-equal key at.0 test)) at.1
 
   -- one key more adds its pair
   pub pairs_of-with_key : (keys : List Key) (key : Key) → key.set < length lists → AreNumbered (length lists) keys

@@ -1,5 +1,5 @@
 -- What is kept of sets and pairs, and what one set or one pair more makes of it.
-use Rattle.std.proofs.Common.{ℕ, ◌+◌, ◌*◌, ◌^◌, ◌<◌, ◌≤◌, ◌≡◌, ◌==◌, inl, inr, List, [], ◌∷◌, length, refl, sym, ap, ◌∙◌, subst, arith, lit<, true, false, if◌then◌else◌, All, Vec, Some, slice_get, vec_len}
+use Rattle.std.proofs.Common.{ℕ, ◌+◌, ◌*◌, ◌^◌, ◌<◌, ◌≤◌, ◌≡◌, ◌==◌, ◌⊎◌, inl, inr, List, [], ◌∷◌, length, refl, sym, ap, ◌∙◌, subst, arith, lit<, true, false, if◌then◌else◌, All, Vec, Some, slice_get, slice_index, vec_len}
 use Rattle.std.specs.List.{list_any}
 use Rattle.std.specs.Str.{bytes_eq}
 use Rattle.std.specs.declared.alloc.Global.{Global}
@@ -11,21 +11,23 @@ use Rattle.spectro_game.specs.Pairs.{Pair, weight, size}
 use Rattle.spectro_game.specs.Reached.{StandsAt}
 use Rattle.spectro_theory.specs.Reaching.{StandOnce, with_last, is_same_pair}
 use Rattle.spectro_theory.proofs.Places.{holds-at, stands-some}
-use Rattle.spectro_theory.proofs.PutLast.{All-with_last, length-with_all, once-with_last, with_all-one, with_last-known, with_last-new}
+use Rattle.spectro_theory.proofs.PutLast.{All-with_last, length-with_all, once-with_last, stands-with_last, with_all-one, with_last-known, with_last-new}
 use Rattle.spectro_theory.proofs.Sizes.{few_members, half-size, size-append, size-one}
 use Rattle.spectro_pairs.specs.declared.pairs.Key.{Key}
 use Rattle.spectro_pairs.specs.Explored.{IsSetWithin, IsPairWithin}
 use Rattle.spectro_pairs.specs.Interned.{AreInterned, lists_of, pair_at, pairs_of}
+use Rattle.spectro_pairs.specs.Known.{Knows}
 use Rattle.spectro_pairs.proofs.Sets.{set-equal, set-itself, stands-lists}
 use Rattle.spectro_pairs.proofs.Interning.{any-pairs, is_same_key, length-pairs_of, pair_at-set, pairs_of-with_key, pairs_of-with_last, same_key-equal, same_key-itself, stands-pairs}
 
 -- nothing is kept at first
-pub interned-nil : (states limit : ℕ) (sets : List (Vec ℕ Global)) (keys : List Key) → sets ≡ [] → keys ≡ [] → limit ≤ 1000000 → AreInterned states limit 0 sets keys
+pub interned-nil : (states limit : ℕ) (known : List ℕ) (sets : List (Vec ℕ Global)) (keys : List Key) → sets ≡ [] → keys ≡ [] → limit ≤ 1000000
+    → length known ≤ limit → ((i : ℕ) → slice_index known i ≡ 0) → AreInterned states limit 0 known sets keys
 unfolding lists_of pairs_of
-interned-nil states limit sets keys no-sets no-keys bound =
-    subst (λ l. AreInterned states limit 0 l keys) (sym no-sets) (subst (AreInterned states limit 0 []) (sym no-keys) empty)
+interned-nil states limit known sets keys no-sets no-keys bound few none =
+    subst (λ l. AreInterned states limit 0 known l keys) (sym no-sets) (subst (AreInterned states limit 0 known []) (sym no-keys) empty)
   where
-    empty : AreInterned states limit 0 [] []
+    empty : AreInterned states limit 0 known [] []
     empty = record {
       once = λ i j x here also. cc;
       within = All-nil (IsSetWithin states);
@@ -35,6 +37,8 @@ interned-nil states limit sets keys no-sets no-keys bound =
       sized = refl;
       small = omega arith;
       bound = bound;
+      few_known = few;
+      exact = λ state set n knows. absurd (omega (arith, none (set * states + state), knows.number));
     }
 
 -- the number that stands for a weight is at most the weight, and is the weight where it is at most a million
@@ -55,9 +59,9 @@ weight-low x n r members few many = elim (cases_lt n 20) [ inl below ↦ exact (
         (omega arith, λ m. absurd (omega arith))
 
 -- each pair is within the states
-pub pairs-within : (states limit n : ℕ) (sets : List (Vec ℕ Global)) (keys : List Key) → AreInterned states limit n sets keys → All (IsPairWithin states) (pairs_of (lists_of sets) keys)
+pub pairs-within : (states limit n : ℕ) (known : List ℕ) (sets : List (Vec ℕ Global)) (keys : List Key) → AreInterned states limit n known sets keys → All (IsPairWithin states) (pairs_of (lists_of sets) keys)
 unfolding pair_at
-pairs-within states limit n sets keys well k d within =
+pairs-within states limit n known sets keys well k d within =
     let lists = lists_of sets in
     let at = stands-some keys k (omega (arith, length-pairs_of lists keys, within)) in
     let here = stands-pairs lists keys k at.0 at.1 in
@@ -68,7 +72,7 @@ pairs-within states limit n sets keys well k d within =
     } in
     subst (IsPairWithin states) (sym (get_or_from_slice_get (pairs_of lists keys) k (pair_at lists at.0.state at.0.set) d here)) one
 
-module _ {states limit n : ℕ} {sets : List (Vec ℕ Global)} {keys : List Key} (well : AreInterned states limit n sets keys) where
+module _ {states limit n : ℕ} {known : List ℕ} {sets : List (Vec ℕ Global)} {keys : List Key} (well : AreInterned states limit n known sets keys) where
   pub half-limit : 2 * length keys ≤ limit
   half-limit =
       let sized = well.sized in
@@ -90,7 +94,7 @@ module _ {states limit n : ℕ} {sets : List (Vec ℕ Global)} {keys : List Key}
     no-fewer : length (lists_of sets) ≤ length (lists_of more)
     no-fewer = omega (arith, ap length put, length-with_all bytes_eq (set ∷ []) (lists_of sets), ap length (with_all-one bytes_eq (lists_of sets) set))
 
-    pub interned-set : IsSetWithin states set → AreInterned states limit n more keys
+    pub interned-set : IsSetWithin states set → AreInterned states limit n known more keys
     interned-set within = record {
       once = subst StandOnce (sym put) (once-with_last bytes_eq set-equal set-itself (lists_of sets) set well.once);
       within = subst (All (IsSetWithin states)) (sym put) (All-with_last (IsSetWithin states) bytes_eq (lists_of sets) set well.within within);
@@ -100,7 +104,28 @@ module _ {states limit n : ℕ} {sets : List (Vec ℕ Global)} {keys : List Key}
       sized = well.sized ∙ sym (ap size same-pairs);
       small = well.small;
       bound = well.bound;
+      few_known = well.few_known;
+      exact = well.exact;
     }
+
+  -- ---- a number that is kept
+  pub interned-known : (state set k : ℕ) (more : List ℕ) → length more ≡ length known → StandsAt keys k (record { state = state; set = set })
+      → ((p q m : ℕ) → Knows states more p q m → Knows states known p q m ⊎ ((p ≡ state) × (q ≡ set) × (m ≡ k))) → AreInterned states limit n more sets keys
+  interned-known state set k more same here cases = record {
+    once = well.once;
+    within = well.within;
+    in_range = well.in_range;
+    numbered = well.numbered;
+    apart = well.apart;
+    sized = well.sized;
+    small = well.small;
+    bound = well.bound;
+    few_known = omega (arith, same, well.few_known);
+    exact = λ p q m knows. elim (cases p q m knows) [
+      | inl old ↦ well.exact p q m old
+      | inr (one, other, last) ↦ subst (λ j. StandsAt keys j (record { state = p; set = q })) (sym last) (subst (StandsAt keys k) (λ i. record { state = sym one i; set = sym other i }) here)
+    ];
+  }
 
   -- ---- one pair more
   module _ (key : Key) (below : key.set < length (lists_of sets)) where
@@ -124,7 +149,7 @@ module _ {states limit n : ℕ} {sets : List (Vec ℕ Global)} {keys : List Key}
         omega (arith, ap size put, size-append pairs (new ∷ []), size-one new, sized)
 
     pub interned-key : (m : ℕ) (more : List Key) → more ≡ with_last is_same_key keys key → key.state < states
-        → m ≡ size (with_last is_same_pair (pairs_of (lists_of sets) keys) (pair_at (lists_of sets) key.state key.set)) → m ≤ limit → AreInterned states limit m sets more
+        → m ≡ size (with_last is_same_pair (pairs_of (lists_of sets) keys) (pair_at (lists_of sets) key.state key.set)) → m ≤ limit → AreInterned states limit m known sets more
     interned-key m more put in_range sized small = record {
       once = well.once;
       within = well.within;
@@ -135,6 +160,8 @@ module _ {states limit n : ℕ} {sets : List (Vec ℕ Global)} {keys : List Key}
       sized = sized ∙ ap size (sym put-pair ∙ ap (pairs_of (lists_of sets)) (sym put));
       small = small;
       bound = well.bound;
+      few_known = well.few_known;
+      exact = λ p q m knows. subst (λ l. StandsAt l m (record { state = p; set = q })) (sym put) (stands-with_last is_same_key same_key-equal same_key-itself keys key m (record { state = p; set = q }) (well.exact p q m knows));
     }
 
     -- the weight of the pair, by the members of its set

@@ -1,5 +1,6 @@
 pub mod Sets
 pub mod Interning
+pub mod KnownNumbers
 pub mod KeptPairs
 pub mod RowLists
 pub mod Stamps

@@ -1,5 +1,6 @@
 pub mod Explored
 pub mod Limits
+pub mod Known
 pub mod Interned
 pub mod Rows
 pub mod Subsets

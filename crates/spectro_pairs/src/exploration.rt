@@ -1,4 +1,4 @@
-ghost use Rattle.std.specs.Prelude.{◌≡◌, ◌<◌, ◌≤◌, [], ◌∷◌, length, map, All, IfErr, OnOk};
+ghost use Rattle.std.specs.Prelude.{◌≡◌, ◌<◌, ◌≤◌, [], ◌∷◌, length, map, All, IfOk, IfErr, OnOk};
 ghost use Rattle.spectro_spec.specs.System.{post};
 ghost use Rattle.spectro_game.specs.Pairs.{observed, subsets, swaps};
 ghost use Rattle.spectro_game.specs.Reached.{StandsAt};
@@ -13,7 +13,7 @@ use crate::rows::Rows;
 use crate::subsets::take_subset;
 use smallvec::SmallVec;
 use spectro_lts::Lts;
-use std::alloc::Global;
+use std::alloc::{AllocError, Global};
 
 /// The pairs that are reached so far, and for the first of them the numbers of the pairs that follow and of the labels of
 /// their observations.
@@ -26,17 +26,17 @@ pub(crate) struct Exploration {
 
 impl Exploration {
     /// No pairs, of a system with so many states.
-    pub(crate) fn new(alloc: Global, states: u32, limit: u32) -> Exploration
+    pub(crate) fn new(alloc: Global, states: u32, limit: u32) -> Result<Exploration, AllocError>
         requires { limit ≤ 1000000 }
-        ensures pairs { result.pairs ≡ record { states = states; limit = limit; sets = []; pairs = [] } }
-        ensures followers { result.followers ≡ record { rows = []; last = [] } }
-        ensures labels { result.labels ≡ record { rows = []; last = [] } }
+        ensures pairs { IfOk result (λ exploration. exploration.pairs ≡ record { states = states; limit = limit; sets = []; pairs = [] }) }
+        ensures followers { IfOk result (λ exploration. exploration.followers ≡ record { rows = []; last = [] }) }
+        ensures labels { IfOk result (λ exploration. exploration.labels ≡ record { rows = []; last = [] }) }
     {
-        Exploration {
-            pairs: Pairs::new(alloc, states, limit),
+        Ok(Exploration {
+            pairs: Pairs::new(alloc, states, limit)?,
             followers: Rows::new(alloc),
             labels: Rows::new(alloc),
-        }
+        })
     }
 
     /// Reaches the starts.

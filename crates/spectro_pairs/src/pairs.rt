@@ -1,10 +1,11 @@
-ghost use Rattle.std.specs.Prelude.{◌≡◌, ◌<◌, ◌≤◌, ◌+◌, ◌*◌, ◌^◌, ◌==◌, [], if◌then◌else◌, length, position, slice_get, All, Some, IfOk, IfErr, OnOk, OnErr};
+ghost use Rattle.std.specs.Prelude.{ℕ, ◌⊎◌, IfSome, ◌≡◌, ◌<◌, ◌≤◌, ◌+◌, ◌*◌, ◌^◌, ◌==◌, [], if◌then◌else◌, length, position, slice_get, All, Some, IfOk, IfErr, OnOk, OnErr};
 ghost use Rattle.std.specs.Str.{bytes_eq};
 ghost use Rattle.spectro_game.specs.Pairs.{size};
 ghost use Rattle.spectro_game.specs.Reached.{StandsAt};
 ghost use Rattle.spectro_theory.specs.Reaching.{with_last, is_same_pair};
 ghost use Rattle.spectro_pairs.specs.Explored.{IsSetWithin, IsPairWithin};
 ghost use Rattle.spectro_pairs.specs.Interned.{Interned, pair_at, IsPairAt};
+ghost use Rattle.spectro_pairs.specs.Known.{IsPlaceOf, Knows};
 ghost use Rattle.spectro_pairs.specs.Limits.{IsPastLimit};
 
 use crate::ExploreError;
@@ -21,6 +22,9 @@ struct Key {
 
 /// Sets of states and pairs of a state and a set, each numbered in the order in which they were found. The game on the
 /// pairs has at most `limit` positions.
+///
+/// Most look-ups are of pairs that are there, and each costs two reads in tables that fit no cache. So for the first sets
+/// `known` has a row with a place for each state: the number of their pair and 1, or 0 where it was not looked up yet.
 #[derive(Drop)]
 pub(crate) struct Pairs {
     states: u32,
@@ -28,6 +32,7 @@ pub(crate) struct Pairs {
     size: u32,
     sets: IndexSet<Vec<u32>>,
     keys: IndexSet<Key>,
+    known: Vec<u32>,
 }
 
 impl Model for Pairs {
@@ -37,22 +42,24 @@ impl Model for Pairs {
 
     ghost view = { λ p. interned p.states p.limit p.sets.keys p.keys.keys };
 
-    ghost invariant = { λ p. AreInterned p.states p.limit p.size p.sets.keys p.keys.keys };
+    ghost invariant = { λ p. AreInterned p.states p.limit p.size p.known.items p.sets.keys p.keys.keys };
 }
 
 impl Pairs {
     /// No pairs, of a system with so many states.
-    pub(crate) fn new(alloc: Global, states: u32, limit: u32) -> Pairs
+    pub(crate) fn new(alloc: Global, states: u32, limit: u32) -> Result<Pairs, AllocError>
         requires { limit ≤ 1000000 }
-        ensures { result ≡ record { states = states; limit = limit; sets = []; pairs = [] } }
+        ensures { IfOk result (λ pairs. pairs ≡ record { states = states; limit = limit; sets = []; pairs = [] }) }
     {
-        Pairs {
+        let known = vec![in alloc; 0u32; limit as usize]?;
+        Ok(Pairs {
             states,
             limit,
             size: 0,
             sets: IndexSet::new(alloc),
             keys: IndexSet::new(alloc),
-        }
+            known,
+        })
     }
 
     /// How many pairs there are.
@@ -128,6 +135,23 @@ impl Pairs {
         ensures limit { IfErr result (λ e. IsPastLimit e self.old.limit (size (with_last is_same_pair self.old.pairs (pair_at self.old.sets state set)))) }
         ensures err { OnErr result (self.new ≡ self.old) }
     {
+        if let Some(k) = known_number(&self.known, self.states, state, set) {
+            return Ok(k);
+        }
+        let k = self.number(state, set)?;
+        know(&mut self.known, self.states, state, set, k);
+        Ok(k)
+    }
+
+    // The number of the pair by its key, which goes last if it is new.
+    fn number(&mut self, state: u32, set: usize) -> Result<u32, ExploreError>
+        requires state { state < self.old.states }
+        requires set { set < length self.old.sets }
+        ensures ok { OnOk result (self.new ≡ record self.old { pairs = with_last is_same_pair self.old.pairs (pair_at self.old.sets state set) }) }
+        ensures number { IfOk result (λ k. StandsAt self.new.pairs k (pair_at self.old.sets state set)) }
+        ensures limit { IfErr result (λ e. IsPastLimit e self.old.limit (size (with_last is_same_pair self.old.pairs (pair_at self.old.sets state set)))) }
+        ensures err { OnErr result (self.new ≡ self.old) }
+    {
         let key = Key { state, set };
         if let Some(k) = self.keys.get_index_of(&key) {
             return Ok(k as u32);
@@ -139,6 +163,36 @@ impl Pairs {
         let (k, _) = self.keys.insert_full(key)?;
         self.size = size as u32;
         Ok(k as u32)
+    }
+}
+
+// Where the number of the pair is kept, if it is.
+fn place(states: u32, state: u32, set: usize) -> usize
+    ensures { IsPlaceOf states state set result }
+{
+    set.saturating_mul(states as usize)
+        .saturating_add(state as usize)
+}
+
+// The number of the pair, where it is kept.
+fn known_number(known: &[u32], states: u32, state: u32, set: usize) -> Option<u32>
+    requires { state < states }
+    ensures { IfSome result (Knows states known.now state set) }
+{
+    known.get(place(states, state, set))?.checked_sub(1)
+}
+
+// Keeps the number of the pair, where it has a place.
+fn know(known: &mut Vec<u32>, states: u32, state: u32, set: usize, k: u32)
+    requires few { length known.old.items ≤ 1000000 }
+    requires state { state < states }
+    requires bound { k < 4294967295 }
+    ensures len { length known.new.items ≡ length known.old.items }
+    ensures knows { (p q n : ℕ) → Knows states known.new.items p q n → Knows states known.old.items p q n ⊎ ((p ≡ state) × (q ≡ set) × (n ≡ k)) }
+{
+    let place = place(states, state, set);
+    if place < known.len() {
+        known[place] = k + 1;
     }
 }
 

@@ -14,17 +14,17 @@ pub returns-in_err-start-clause-limit : goal.returns-in_err-start-clause-limit
 returns-in_err-start-clause-limit c =
     let p = err_from_is_err_and c.from_residual-in_err-start.result c.from_residual-in_err-start.ensures.1 in
     rw (p.1, p.2)
-    (past-starts c.args.lts.now c.args.starts.now c.in_err-start.field-0.0 c.args.limit c.states.result c.new-exploration.result c.new-exploration.ensures.pairs c.in_err-start.ensures.limit)
+    (past-starts c.args.lts.now c.args.starts.now c.in_err-start.field-0.0 c.args.limit c.states.result c.in_ok-exploration.exploration c.in_ok-exploration.ensures.pairs c.in_err-start.ensures.limit)
 
 pub loop-k-init : goal.loop-k-init
 loop-k-init c =
-    let made = c.new-exploration.ensures.pairs ∙ ap (λ n. record { states = n; limit = c.args.limit; sets = []; pairs = [] }) c.states.ensures.value in
+    let made = c.in_ok-exploration.ensures.pairs ∙ ap (λ n. record { states = n; limit = c.args.limit; sets = []; pairs = [] }) c.states.ensures.value in
     record {
       explored =
-          explored-none c.args.lts.now c.args.starts.now c.new-exploration.result c.start.new.self c.args.limit made c.new-exploration.ensures.followers c.new-exploration.ensures.labels
+          explored-none c.args.lts.now c.args.starts.now c.in_ok-exploration.exploration c.start.new.self c.args.limit made c.in_ok-exploration.ensures.followers c.in_ok-exploration.ensures.labels
           c.in_ok-start.ensures.ok;
       within = omega arith;
-      limit = c.in_ok-start.ensures.ok.limit ∙ ap (λ (p : Interned). p.limit) c.new-exploration.ensures.pairs;
+      limit = c.in_ok-start.ensures.ok.limit ∙ ap (λ (p : Interned). p.limit) c.in_ok-exploration.ensures.pairs;
     }
 
 pub expand-requires-clause-states : goal.expand-requires-clause-states
