@@ -1,6 +1,6 @@
-ghost use Rattle.std.specs.Prelude.{◌≡◌, ◌<◌, [], ◌∷◌, length, map, All, IfOk};
+ghost use Rattle.std.specs.Prelude.{◌≡◌, ◌<◌, [], ◌∷◌, length, map, slice_get, All, Some, IfOk};
 ghost use Rattle.std.specs.List.Sorted.{IsStrictlyIncreasing};
-ghost use Rattle.spectro_spec.specs.System.{post};
+ghost use Rattle.spectro_spec.specs.System.{Label, post};
 ghost use Rattle.spectro_spec.specs.LabelOrder.{labels_from};
 ghost use Rattle.spectro_lts.specs.Labels.{labels_of, label_of};
 
@@ -27,6 +27,17 @@ impl Lts {
         ensures in_range { All (λ t. t < self.now.states) result.now }
     {
         self.table.successors(s, no)
+    }
+
+    /// The targets of the steps from `s` under its label at place `i` of `labels_of`, rising, each once.
+    pub fn successors_at(&self, s: u32, i: usize) -> &[u32]
+        requires state { s < self.now.states }
+        requires place { i < length (labels_from self.now.steps s) }
+        ensures value { (label : Label) → slice_get (labels_from self.now.steps s) i ≡ Some label → result.now ≡ post self.now (s ∷ []) label }
+        ensures rises { IsStrictlyIncreasing result.now }
+        ensures in_range { All (λ t. t < self.now.states) result.now }
+    {
+        self.table.successors_at(s, i)
     }
 
     /// The targets of the steps from the states of the set under the label.
