@@ -12,7 +12,7 @@ use Rattle.spectro_theory.proofs.Reaching.{fronts-begin, put_last, reaching-begi
 use Rattle.spectro_pairs.specs.declared.error.ExploreError.{ExploreError}
 use Rattle.spectro_pairs.specs.declared.exploration.Exploration.{Exploration}
 use Rattle.spectro_pairs.specs.Explored.{IsExploredFrom, IsPairWithin, NameRows, observed_labels, start_pair, start_pairs}
-use Rattle.spectro_pairs.specs.Growth.{AreExplored, HasExpanded, HasStarted, IsPastFollowers, IsPastWith}
+use Rattle.spectro_pairs.specs.Growth.{AreExplored, ArePosts, HasExpanded, HasStarted, IsPastFollowers, IsPastWith}
 use Rattle.spectro_pairs.specs.Interned.{Interned}
 use Rattle.spectro_pairs.specs.Limits.{IsPastLimit}
 use Rattle.spectro_pairs.specs.Rows.{RowList}
@@ -37,9 +37,10 @@ module _ (system : System) (starts : List (ℕ × ℕ)) where
 
   -- nothing is explored yet
   pub explored-none : (a b : Exploration) (limit : ℕ) → a.pairs ≡ record { states = system.states; limit = limit; sets = []; pairs = [] } → a.followers ≡ record { rows = []; last = [] }
-      → a.labels ≡ record { rows = []; last = [] } → HasStarted a b (map start_pair starts) → AreExplored system starts b 0
-  explored-none a b limit none no_followers no_labels has = record {
+      → a.labels ≡ record { rows = []; last = [] } → HasStarted a b (map start_pair starts) → ArePosts system b → AreExplored system starts b 0
+  explored-none a b limit none no_followers no_labels has posts = record {
     states = has.states ∙ ap (λ (p : Interned). p.states) none;
+    posts = posts;
     reached =
         subst (λ l. AreReachedPairsTo system (start_pairs starts) l 0)
         (sym (has.pairs ∙ ap (λ (p : Interned). with_all is_same_pair p.pairs (map start_pair starts)) none)) started;
@@ -50,12 +51,13 @@ module _ (system : System) (starts : List (ℕ × ℕ)) where
   }
 
   -- ---- one pair more
-  pub explored-more : (a b : Exploration) (k : ℕ) → AreExplored system starts a k → HasExpanded system a b k → AreExplored system starts b (k + 1)
-  explored-more a b k explored has =
+  pub explored-more : (a b : Exploration) (k : ℕ) → AreExplored system starts a k → HasExpanded system a b k → ArePosts system b → AreExplored system starts b (k + 1)
+  explored-more a b k explored has posts =
       let grown = with_all-grows is_same_pair (followers system has.x) a.pairs.pairs in
       let longer : b.pairs.pairs ≡ a.pairs.pairs ++ grown.0 = has.pairs ∙ grown.1 in
       record {
         states = has.states ∙ explored.states;
+        posts = posts;
         reached =
             subst (λ l. AreReachedPairsTo system (start_pairs starts) l (k + 1)) (sym has.pairs)
             (reaching-goes_on system (start_pairs starts) a.pairs.pairs k has.x explored.reached has.here);

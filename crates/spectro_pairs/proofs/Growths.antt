@@ -8,6 +8,7 @@ use Rattle.spectro_theory.proofs.Sizes.{size-front}
 use Rattle.spectro_pairs.specs.declared.error.ExploreError.{ExploreError}
 use Rattle.spectro_pairs.specs.declared.error.ExploreError.TheVariants.{TooLarge, OutOfMemory}
 use Rattle.spectro_pairs.specs.declared.exploration.Exploration.{Exploration}
+use Rattle.spectro_pairs.specs.declared.known.Known.{Known}
 use Rattle.spectro_pairs.specs.Interned.{Interned}
 use Rattle.spectro_pairs.specs.Limits.{IsPastLimit}
 use Rattle.spectro_pairs.specs.Rows.{RowList}
@@ -80,6 +81,10 @@ pub has-next : (a b c : Exploration) (done now more : List Pair) (ls ms ns : Lis
 has-next a b c done now more ls ms ns first then pairs labels =
     subst (λ l. HasReached a c l ns) (sym pairs) (subst (HasReached a c (done ++ now)) (sym labels) (has-then a b c done now ls ms first then))
 
+-- no more was reached then
+pub has-still : (a b c : Exploration) (ys : List Pair) (ls : List ℕ) → HasReached a b ys ls → HasReached b c [] [] → HasReached a c ys ls
+has-still a b c ys ls first then = has-next a b c ys [] ys ls [] ls first then (sym (append-nil ys)) (sym (append-nil ls))
+
 -- another set was numbered
 pub has-numbered : (a b : Exploration) (pairs : Interned) (sets : List (List ℕ)) (ys : List Pair) (ls : List ℕ) → pairs ≡ record b.pairs { sets = sets }
     → HasReached a b ys ls → HasReached a (record b { pairs = pairs }) ys ls
@@ -91,6 +96,18 @@ has-numbered a b pairs sets ys ls numbered has = record {
   followers = has.followers;
   labels = has.labels;
   named = subst (λ l. Name l has.numbers ys) (sym (ap (λ (p : Interned). p.pairs) numbered)) has.named;
+}
+
+-- another number was put down
+pub has-kept : (a b : Exploration) (posts : Known) (ys : List Pair) (ls : List ℕ) → HasReached a b ys ls → HasReached a (record b { posts = posts }) ys ls
+has-kept a b posts ys ls has = record {
+  states = has.states;
+  limit = has.limit;
+  pairs = has.pairs;
+  numbers = has.numbers;
+  followers = has.followers;
+  named = has.named;
+  labels = has.labels;
 }
 
 -- labels were put down

@@ -1,5 +1,5 @@
 -- What is kept of sets and pairs, and what one set or one pair more makes of it.
-use Rattle.std.proofs.Common.{ℕ, ◌+◌, ◌*◌, ◌^◌, ◌<◌, ◌≤◌, ◌≡◌, ◌==◌, ◌⊎◌, inl, inr, List, [], ◌∷◌, length, refl, sym, ap, ◌∙◌, subst, arith, lit<, true, false, if◌then◌else◌, All, Vec, Some, slice_get, slice_index, vec_len}
+use Rattle.std.proofs.Common.{ℕ, ◌+◌, ◌*◌, ◌^◌, ◌<◌, ◌≤◌, ◌≡◌, ◌==◌, ◌⊎◌, inl, inr, List, [], ◌∷◌, length, refl, sym, ap, ◌∙◌, subst, arith, lit<, true, false, if◌then◌else◌, All, Vec, Some, slice_get, vec_len}
 use Rattle.std.specs.List.{list_any}
 use Rattle.std.specs.Str.{bytes_eq}
 use Rattle.std.specs.declared.alloc.Global.{Global}
@@ -17,14 +17,15 @@ use Rattle.spectro_pairs.specs.declared.pairs.Key.{Key}
 use Rattle.spectro_pairs.specs.Explored.{IsSetWithin, IsPairWithin}
 use Rattle.spectro_pairs.specs.Interned.{AreInterned, lists_of, pair_at, pairs_of}
 use Rattle.spectro_pairs.specs.Known.{Knows}
+use Rattle.spectro_pairs.specs.declared.known.Known.{Known}
 use Rattle.spectro_pairs.proofs.Sets.{set-equal, set-itself, stands-lists}
 use Rattle.spectro_pairs.proofs.Interning.{any-pairs, is_same_key, length-pairs_of, pair_at-set, pairs_of-with_key, pairs_of-with_last, same_key-equal, same_key-itself, stands-pairs}
 
 -- nothing is kept at first
-pub interned-nil : (states limit : ℕ) (known : List ℕ) (sets : List (Vec ℕ Global)) (keys : List Key) → sets ≡ [] → keys ≡ [] → limit ≤ 1000000
-    → length known ≤ limit → ((i : ℕ) → slice_index known i ≡ 0) → AreInterned states limit 0 known sets keys
+pub interned-nil : (states limit : ℕ) (known : Known) (sets : List (Vec ℕ Global)) (keys : List Key) → sets ≡ [] → keys ≡ [] → limit ≤ 1000000
+    → known.width ≡ states → ((set state n : ℕ) → Knows known set state n → ⊥) → AreInterned states limit 0 known sets keys
 unfolding lists_of pairs_of
-interned-nil states limit known sets keys no-sets no-keys bound few none =
+interned-nil states limit known sets keys no-sets no-keys bound wide none =
     subst (λ l. AreInterned states limit 0 known l keys) (sym no-sets) (subst (AreInterned states limit 0 known []) (sym no-keys) empty)
   where
     empty : AreInterned states limit 0 known [] []
@@ -37,8 +38,9 @@ interned-nil states limit known sets keys no-sets no-keys bound few none =
       sized = refl;
       small = omega arith;
       bound = bound;
-      few_known = few;
-      exact = λ state set n knows. absurd (omega (arith, none (set * states + state), knows.number));
+      few = omega arith;
+      wide = wide;
+      exact = λ set state n knows. absurd (none set state n knows);
     }
 
 -- the number that stands for a weight is at most the weight, and is the weight where it is at most a million
@@ -59,7 +61,7 @@ weight-low x n r members few many = elim (cases_lt n 20) [ inl below ↦ exact (
         (omega arith, λ m. absurd (omega arith))
 
 -- each pair is within the states
-pub pairs-within : (states limit n : ℕ) (known : List ℕ) (sets : List (Vec ℕ Global)) (keys : List Key) → AreInterned states limit n known sets keys → All (IsPairWithin states) (pairs_of (lists_of sets) keys)
+pub pairs-within : (states limit n : ℕ) (known : Known) (sets : List (Vec ℕ Global)) (keys : List Key) → AreInterned states limit n known sets keys → All (IsPairWithin states) (pairs_of (lists_of sets) keys)
 unfolding pair_at
 pairs-within states limit n known sets keys well k d within =
     let lists = lists_of sets in
@@ -72,7 +74,7 @@ pairs-within states limit n known sets keys well k d within =
     } in
     subst (IsPairWithin states) (sym (get_or_from_slice_get (pairs_of lists keys) k (pair_at lists at.0.state at.0.set) d here)) one
 
-module _ {states limit n : ℕ} {known : List ℕ} {sets : List (Vec ℕ Global)} {keys : List Key} (well : AreInterned states limit n known sets keys) where
+module _ {states limit n : ℕ} {known : Known} {sets : List (Vec ℕ Global)} {keys : List Key} (well : AreInterned states limit n known sets keys) where
   pub half-limit : 2 * length keys ≤ limit
   half-limit =
       let sized = well.sized in
@@ -94,8 +96,8 @@ module _ {states limit n : ℕ} {known : List ℕ} {sets : List (Vec ℕ Global)
     no-fewer : length (lists_of sets) ≤ length (lists_of more)
     no-fewer = omega (arith, ap length put, length-with_all bytes_eq (set ∷ []) (lists_of sets), ap length (with_all-one bytes_eq (lists_of sets) set))
 
-    pub interned-set : IsSetWithin states set → AreInterned states limit n known more keys
-    interned-set within = record {
+    pub interned-set : IsSetWithin states set → length (lists_of more) ≤ 4294967295 → AreInterned states limit n known more keys
+    interned-set within few = record {
       once = subst StandOnce (sym put) (once-with_last bytes_eq set-equal set-itself (lists_of sets) set well.once);
       within = subst (All (IsSetWithin states)) (sym put) (All-with_last (IsSetWithin states) bytes_eq (lists_of sets) set well.within within);
       in_range = well.in_range;
@@ -104,14 +106,15 @@ module _ {states limit n : ℕ} {known : List ℕ} {sets : List (Vec ℕ Global)
       sized = well.sized ∙ sym (ap size same-pairs);
       small = well.small;
       bound = well.bound;
-      few_known = well.few_known;
+      few = few;
+      wide = well.wide;
       exact = well.exact;
     }
 
   -- ---- a number that is kept
-  pub interned-known : (state set k : ℕ) (more : List ℕ) → length more ≡ length known → StandsAt keys k (record { state = state; set = set })
-      → ((p q m : ℕ) → Knows states more p q m → Knows states known p q m ⊎ ((p ≡ state) × (q ≡ set) × (m ≡ k))) → AreInterned states limit n more sets keys
-  interned-known state set k more same here cases = record {
+  pub interned-known : (set state k : ℕ) (more : Known) → more.width ≡ known.width → StandsAt keys k (record { state = state; set = set })
+      → ((p q m : ℕ) → Knows more p q m → Knows known p q m ⊎ ((p ≡ set) × (q ≡ state) × (m ≡ k))) → AreInterned states limit n more sets keys
+  interned-known set state k more same here cases = record {
     once = well.once;
     within = well.within;
     in_range = well.in_range;
@@ -120,10 +123,11 @@ module _ {states limit n : ℕ} {known : List ℕ} {sets : List (Vec ℕ Global)
     sized = well.sized;
     small = well.small;
     bound = well.bound;
-    few_known = omega (arith, same, well.few_known);
+    few = well.few;
+    wide = same ∙ well.wide;
     exact = λ p q m knows. elim (cases p q m knows) [
       | inl old ↦ well.exact p q m old
-      | inr (one, other, last) ↦ subst (λ j. StandsAt keys j (record { state = p; set = q })) (sym last) (subst (StandsAt keys k) (λ i. record { state = sym one i; set = sym other i }) here)
+      | inr (one, other, last) ↦ subst (λ j. StandsAt keys j (record { state = q; set = p })) (sym last) (subst (StandsAt keys k) (λ i. record { state = sym other i; set = sym one i }) here)
     ];
   }
 
@@ -160,8 +164,9 @@ module _ {states limit n : ℕ} {known : List ℕ} {sets : List (Vec ℕ Global)
       sized = sized ∙ ap size (sym put-pair ∙ ap (pairs_of (lists_of sets)) (sym put));
       small = small;
       bound = well.bound;
-      few_known = well.few_known;
-      exact = λ p q m knows. subst (λ l. StandsAt l m (record { state = p; set = q })) (sym put) (stands-with_last is_same_key same_key-equal same_key-itself keys key m (record { state = p; set = q }) (well.exact p q m knows));
+      few = well.few;
+      wide = well.wide;
+      exact = λ p q m knows. subst (λ l. StandsAt l m (record { state = q; set = p })) (sym put) (stands-with_last is_same_key same_key-equal same_key-itself keys key m (record { state = q; set = p }) (well.exact p q m knows));
     }
 
     -- the weight of the pair, by the members of its set

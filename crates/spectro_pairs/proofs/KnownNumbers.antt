@@ -1,35 +1,22 @@
 -- What a number that is put down makes of those that are kept.
-use Rattle.std.proofs.Common.{ℕ, ◌+◌, ◌*◌, ◌^◌, ◌-◌, ◌/◌, ◌%◌, ◌<◌, ◌≤◌, ◌≡◌, ◌⊎◌, inl, inr, List, length, min, set, slice_index, ap, sym, ◌∙◌, subst, arith, get_or-set_same, get_or-set_other}
+use Rattle.std.proofs.Common.{ℕ, ◌+◌, ◌*◌, ◌/◌, ◌%◌, ◌<◌, ◌≡◌, ◌⊎◌, inl, inr, List, length, set, slice_index, ap, sym, ◌∙◌, subst, arith, get_or-set_same, get_or-set_other}
 use Rattle.std.proofs.lemmas.Bool.{cases_eq}
-use Rattle.std.proofs.lemmas.List.{length-set}
 use Rattle.std.proofs.lemmas.Nat.{div-mul-add, mod-mul-add}
-use Rattle.spectro_pairs.specs.Known.{IsPlaceOf, Knows}
 
--- a place within the numbers is not the greatest one
-pub place-is : (states state row place bound : ℕ) → IsPlaceOf states state row place → place < bound → bound ≤ 1000000 → place ≡ row * states + state
-place-is states state row place bound is below few = go (row * states + state) is
+-- a place that has a number after one more is put down had it before, or is that of the row and the column
+pub kept-or-put : (width : ℕ) (places : List ℕ) (row column n : ℕ) → column < width → row * width + column < length places
+    → (p q m : ℕ) → q < width → slice_index (set places (row * width + column) (n + 1)) (p * width + q) ≡ m + 1
+    → (slice_index places (p * width + q) ≡ m + 1) ⊎ ((p ≡ row) × (q ≡ column) × (m ≡ n))
+kept-or-put width places row column n below within p q m in_range number = go (cases_eq (p * width + q) (row * width + column))
   where
-    go : (whole : ℕ) → place ≡ min whole (2 ^ 64 - 1) → place ≡ whole
-    go whole e = omega arith
+    place : ℕ
+    place = row * width + column
 
--- the number that is put down is that of its state and set, and the others are as before
-pub knows-set : (states : ℕ) (known : List ℕ) (state row place k : ℕ) → state < states → IsPlaceOf states state row place → place < length known → length known ≤ 1000000
-    → (p q n : ℕ) → Knows states (set known place (k + 1)) p q n → Knows states known p q n ⊎ ((p ≡ state) × (q ≡ row) × (n ≡ k))
-knows-set states known state row place k in_range is within few p q n knows = go (cases_eq (q * states + p) place)
-  where
-    here : place ≡ row * states + state
-    here = place-is states state row place (length known) is within few
-
-    go : ((q * states + p) ≡ place) ⊎ ((q * states + p) ≡ place → ⊥) → Knows states known p q n ⊎ ((p ≡ state) × (q ≡ row) × (n ≡ k))
+    go : ((p * width + q) ≡ (row * width + column)) ⊎ ((p * width + q) ≡ (row * width + column) → ⊥) → (slice_index places (p * width + q) ≡ m + 1) ⊎ ((p ≡ row) × (q ≡ column) × (m ≡ n))
     go (inl same) =
-        let whole : q * states + p ≡ row * states + state = same ∙ here in
-        let rows : q ≡ row = sym (div-mul-add q states p knows.in_range) ∙ ap (λ m. m / states) whole ∙ div-mul-add row states state in_range in
-        let states_same : p ≡ state = sym (mod-mul-add q states p knows.in_range) ∙ ap (λ m. m % states) whole ∙ mod-mul-add row states state in_range in
-        let read : slice_index (set known place (k + 1)) (q * states + p) ≡ k + 1 =
-        subst (λ i. slice_index (set known place (k + 1)) i ≡ k + 1) (sym same) (get_or-set_same known place (k + 1) 0 within) in
-        inr (states_same, rows, omega (arith, read, knows.number))
-    go (inr other) = inl (record {
-      in_range = knows.in_range;
-      within = omega (arith, knows.within, length-set known place (k + 1));
-      number = sym (get_or-set_other known place (q * states + p) (k + 1) 0 other) ∙ knows.number;
-    })
+        let rows : p ≡ row = sym (div-mul-add p width q in_range) ∙ ap (λ i. i / width) same ∙ div-mul-add row width column below in
+        let columns : q ≡ column = sym (mod-mul-add p width q in_range) ∙ ap (λ i. i % width) same ∙ mod-mul-add row width column below in
+        let read : slice_index (set places (row * width + column) (n + 1)) (p * width + q) ≡ n + 1 =
+        subst (λ i. slice_index (set places (row * width + column) (n + 1)) i ≡ n + 1) (sym same) (get_or-set_same places (row * width + column) (n + 1) 0 within) in
+        inr (rows, columns, omega (arith, read, number))
+    go (inr other) = inl (sym (get_or-set_other places (row * width + column) (p * width + q) (n + 1) 0 other) ∙ number)

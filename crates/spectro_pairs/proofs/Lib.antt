@@ -12,4 +12,5 @@ pub mod ObservedSteps
 pub mod PredecessorRows
 pub mod Turns
 pub mod Growths
+pub mod Posts
 pub mod Exploring

@@ -1,12 +1,12 @@
 -- How an exploration grows.
-use Rattle.std.specs.Prelude.{ℕ, ◌≡◌, List, [], ◌∷◌, ◌++◌, map, slice_get, Some}
-use Rattle.spectro_spec.specs.System.{System}
+use Rattle.std.specs.Prelude.{ℕ, ◌≡◌, List, [], ◌∷◌, ◌++◌, length, map, take, slice_get, Some}
+use Rattle.spectro_spec.specs.System.{System, post}
 use Rattle.spectro_game.specs.Pairs.{Pair, followers, observed, observed_under, size}
 use Rattle.spectro_game.specs.Reached.{StandsAt}
 use Rattle.spectro_theory.specs.Reaching.{AreReachedPairsTo, with_all, is_same_pair}
 use Rattle.spectro_lts.specs.Labels.{labels_of, label_of}
-use Rattle.std.specs.Prelude.{take}
 use Rattle.spectro_pairs.specs.Explored.{NameRows, observed_labels, start_pairs}
+use Rattle.spectro_pairs.specs.Known.{Knows}
 use Rattle.spectro_pairs.specs.Limits.{IsPastLimit}
 use Rattle.spectro_pairs.specs.declared.error.ExploreError.{ExploreError}
 use Rattle.spectro_pairs.specs.declared.exploration.Exploration.{Exploration}
@@ -17,6 +17,15 @@ pair_of state set = record { state = state; set = set }
 -- what is observed under the label of the number
 abbrev pub observed_with : System → ℕ → List ℕ → ℕ → List Pair
 observed_with system state set label_no = observed_under system (pair_of state set) (label_of system.steps label_no)
+
+-- what is kept by state and label is the number of the set of successors
+pub record ArePosts (system : System) (exploration : Exploration) : Type 0 where
+  pub wide : exploration.posts.width ≡ length (labels_of system.steps)
+  pub exact : (q label_no n : ℕ) → Knows exploration.posts q label_no n → StandsAt exploration.pairs.sets n (post system (q ∷ []) (label_of system.steps label_no))
+
+-- what is kept for a system is kept for it
+abbrev pub KeepsPosts : Exploration → Exploration → Type 0
+KeepsPosts old new = (system : System) → ArePosts system old → ArePosts system new
 
 -- the numbers are the places of the members
 abbrev pub Name : {X : Type 0} → List X → List ℕ → List X → Type 0
@@ -71,6 +80,7 @@ IsPastFollowers e system exploration k = (x : Pair) × StandsAt exploration.pair
 -- the followers of the first k pairs are reached, with rows for these k
 pub record AreExplored (system : System) (starts : List (ℕ × ℕ)) (exploration : Exploration) (k : ℕ) : Type 0 where
   pub states : exploration.pairs.states ≡ system.states
+  pub posts : ArePosts system exploration
   pub reached : AreReachedPairsTo system (start_pairs starts) exploration.pairs.pairs k
   pub followers_closed : exploration.followers.last ≡ []
   pub followers : NameRows exploration.pairs.pairs exploration.followers.rows (map (followers system) (take k exploration.pairs.pairs))

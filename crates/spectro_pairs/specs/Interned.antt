@@ -6,6 +6,7 @@ use Rattle.spectro_game.specs.Reached.{StandsAt}
 use Rattle.spectro_theory.specs.Reaching.{StandOnce}
 use Rattle.spectro_pairs.specs.Explored.{IsSetWithin}
 use Rattle.spectro_pairs.specs.Known.{Knows}
+use Rattle.spectro_pairs.specs.declared.known.Known.{Known}
 use Rattle.spectro_pairs.specs.declared.pairs.Key.{Key}
 
 -- sets and pairs in the order of their numbers, the number of states, and the greatest size
@@ -28,8 +29,8 @@ pairs_of sets keys = map (λ (key : Key). pair_at sets key.state key.set) keys
 abbrev pub interned : ℕ → ℕ → List (Vec ℕ Global) → List Key → Interned
 interned states limit sets keys = record { states = states; limit = limit; sets = lists_of sets; pairs = pairs_of (lists_of sets) keys }
 
--- the sets differ and are within the states, each key has a state and the number of a set, the size is that of the pairs and at most the limit, and what is known of a pair is its number
-pub record AreInterned (states limit size_of_pairs : ℕ) (known : List ℕ) (sets : List (Vec ℕ Global)) (keys : List Key) : Type 0 where
+-- the sets differ, are within the states and have numbers below 2^32 - 1, each key has a state and the number of a set, the size is that of the pairs and at most the limit, and what is known of a pair is its number
+pub record AreInterned (states limit size_of_pairs : ℕ) (known : Known) (sets : List (Vec ℕ Global)) (keys : List Key) : Type 0 where
   pub once : StandOnce (lists_of sets)
   pub within : All (IsSetWithin states) (lists_of sets)
   pub in_range : All (λ (key : Key). key.state < states) keys
@@ -38,8 +39,9 @@ pub record AreInterned (states limit size_of_pairs : ℕ) (known : List ℕ) (se
   pub sized : size_of_pairs ≡ size (pairs_of (lists_of sets) keys)
   pub small : size_of_pairs ≤ limit
   pub bound : limit ≤ 1000000
-  pub few_known : length known ≤ limit
-  pub exact : (state set n : ℕ) → Knows states known state set n → StandsAt keys n (record { state = state; set = set })
+  pub few : length (lists_of sets) ≤ 4294967295
+  pub wide : known.width ≡ states
+  pub exact : (set state n : ℕ) → Knows known set state n → StandsAt keys n (record { state = state; set = set })
 
 -- the pair of the number is such
 abbrev pub IsPairAt : List Pair → ℕ → (Pair → Type 0) → Type 0

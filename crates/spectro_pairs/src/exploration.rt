@@ -5,9 +5,10 @@ ghost use Rattle.spectro_game.specs.Reached.{StandsAt};
 ghost use Rattle.spectro_lts.specs.Labels.{labels_of, label_of};
 ghost use Rattle.spectro_pairs.specs.Explored.{IsSetWithin, start_pair};
 ghost use Rattle.spectro_pairs.specs.Interned.{pair_at};
-ghost use Rattle.spectro_pairs.specs.Growth.{pair_of, observed_with, HasReached, HasStarted, HasObserved, HasExpanded, IsPastWith, IsPastFollowers};
+ghost use Rattle.spectro_pairs.specs.Growth.{pair_of, ArePosts, KeepsPosts, HasReached, HasStarted, HasObserved, HasExpanded, IsPastWith, IsPastFollowers};
 
 use crate::ExploreError;
+use crate::known::Known;
 use crate::pairs::Pairs;
 use crate::rows::Rows;
 use crate::subsets::take_subset;
@@ -17,25 +18,31 @@ use std::alloc::{AllocError, Global};
 
 /// The pairs that are reached so far, and for the first of them the numbers of the pairs that follow and of the labels of
 /// their observations.
+///
+/// Most sets have one member, and what follows it under a label is asked for each pair of the set. So `posts` keeps the
+/// numbers of the sets of successors by state and label.
 #[derive(Drop)]
 pub(crate) struct Exploration {
     pub(crate) pairs: Pairs,
     pub(crate) followers: Rows,
     pub(crate) labels: Rows,
+    posts: Known,
 }
 
 impl Exploration {
-    /// No pairs, of a system with so many states.
-    pub(crate) fn new(alloc: Global, states: u32, limit: u32) -> Result<Exploration, AllocError>
+    /// No pairs of the system.
+    pub(crate) fn new(alloc: Global, lts: &Lts, limit: u32) -> Result<Exploration, AllocError>
         requires { limit ≤ 1000000 }
-        ensures pairs { IfOk result (λ exploration. exploration.pairs ≡ record { states = states; limit = limit; sets = []; pairs = [] }) }
+        ensures pairs { IfOk result (λ exploration. exploration.pairs ≡ record { states = lts.now.states; limit = limit; sets = []; pairs = [] }) }
         ensures followers { IfOk result (λ exploration. exploration.followers ≡ record { rows = []; last = [] }) }
         ensures labels { IfOk result (λ exploration. exploration.labels ≡ record { rows = []; last = [] }) }
+        ensures posts { IfOk result (ArePosts lts.now) }
     {
         Ok(Exploration {
-            pairs: Pairs::new(alloc, states, limit)?,
+            pairs: Pairs::new(alloc, lts.states(), limit)?,
             followers: Rows::new(alloc),
             labels: Rows::new(alloc),
+            posts: Known::new(alloc, lts.label_count(), limit as usize)?,
         })
     }
 
@@ -43,6 +50,7 @@ impl Exploration {
     pub(crate) fn start(&mut self, starts: &[(u32, u32)]) -> Result<(), ExploreError>
         requires in_range { All (λ start. (start.0 < self.old.pairs.states) × (start.1 < self.old.pairs.states)) starts.now }
         ensures ok { OnOk result (HasStarted self.old self.new (map start_pair starts.now)) }
+        ensures posts { OnOk result (KeepsPosts self.old self.new) }
         ensures limit { IfErr result (λ e. IsPastWith e self.old (map start_pair starts.now)) }
     {
         for (p, q) in starts {
@@ -57,7 +65,9 @@ impl Exploration {
         requires states { self.old.pairs.states ≡ lts.now.states }
         requires within { k < length self.old.pairs.pairs }
         requires closed { (self.old.followers.last ≡ []) × (self.old.labels.last ≡ []) }
+        requires posts { ArePosts lts.now self.old }
         ensures ok { OnOk result (HasExpanded lts.now self.old self.new k) }
+        ensures posts { OnOk result (ArePosts lts.now self.new) }
         ensures limit { IfErr result (λ e. IsPastFollowers e lts.now self.old k) }
     {
         let state = self.pairs.state(k);
@@ -75,34 +85,65 @@ impl Exploration {
         requires states { self.old.pairs.states ≡ lts.now.states }
         requires state { state < lts.now.states }
         requires set { IsSetWithin lts.now.states set.now }
+        requires posts { ArePosts lts.now self.old }
         ensures ok { OnOk result (HasObserved lts.now self.old self.new (pair_of state set.now)) }
+        ensures posts { OnOk result (ArePosts lts.now self.new) }
         ensures limit { IfErr result (λ e. IsPastWith e self.old (observed lts.now (pair_of state set.now))) }
     {
-        for no in lts.labels_of(state) {
-            self.add_observed(lts, state, set, *no)?;
+        for (i, no) in lts.labels_of(state).iter().enumerate() {
+            let after = self.number_post(lts, set, *no)?;
+            self.add_observed(lts.successors_at(state, i), after, *no)?;
         }
         Ok(())
     }
 
-    // Reaches what is observed from the state and the set under the label.
-    fn add_observed(
-        &mut self,
-        lts: &Lts,
-        state: u32,
-        set: &[u32],
-        no: u32,
-    ) -> Result<(), ExploreError>
+    // The number of the set of successors of the set under the label.
+    fn number_post(&mut self, lts: &Lts, set: &[u32], no: u32) -> Result<u32, AllocError>
         requires states { self.old.pairs.states ≡ lts.now.states }
-        requires state { state < lts.now.states }
         requires set { IsSetWithin lts.now.states set.now }
         requires label { no < length (labels_of lts.now.steps) }
-        ensures ok { OnOk result (HasReached self.old self.new (observed_with lts.now state set.now no) (map (λ t. no) (post lts.now (state ∷ []) (label_of lts.now.steps no)))) }
-        ensures limit { IfErr result (λ e. IsPastWith e self.old (observed_with lts.now state set.now no)) }
+        requires posts { ArePosts lts.now self.old }
+        ensures ok { OnOk result (HasReached self.old self.new [] []) }
+        ensures posts { OnOk result (ArePosts lts.now self.new) }
+        ensures number { IfOk result (λ n. StandsAt self.new.pairs.sets n (post lts.now set.now (label_of lts.now.steps no))) }
     {
-        let after = lts.post(set, no)?;
-        let after = self.pairs.number_set(after.as_slice())?;
-        for t in lts.successors(state, no) {
-            self.add(*t, after)?;
+        match set {
+            [q] => self.number_successors(lts, *q, no),
+            _ => {
+                let after = lts.post(set, no)?;
+                self.pairs.number_set(after.as_slice())
+            }
+        }
+    }
+
+    // The number of the set of successors of the state under the label.
+    fn number_successors(&mut self, lts: &Lts, q: u32, no: u32) -> Result<u32, AllocError>
+        requires states { self.old.pairs.states ≡ lts.now.states }
+        requires state { q < lts.now.states }
+        requires label { no < length (labels_of lts.now.steps) }
+        requires posts { ArePosts lts.now self.old }
+        ensures ok { OnOk result (HasReached self.old self.new [] []) }
+        ensures posts { OnOk result (ArePosts lts.now self.new) }
+        ensures number { IfOk result (λ n. StandsAt self.new.pairs.sets n (post lts.now (q ∷ []) (label_of lts.now.steps no))) }
+    {
+        if let Some(n) = self.posts.get(q, no) {
+            return Ok(n);
+        }
+        let n = self.pairs.number_set(lts.successors(q, no))?;
+        self.posts.put(q, no, n);
+        Ok(n)
+    }
+
+    // Reaches each target against the set of the number, and puts the label down for each.
+    fn add_observed(&mut self, targets: &[u32], set: u32, no: u32) -> Result<(), ExploreError>
+        requires targets { All (λ t. t < self.old.pairs.states) targets.now }
+        requires set { set < length self.old.pairs.sets }
+        ensures ok { OnOk result (HasReached self.old self.new (map (λ t. pair_at self.old.pairs.sets t set) targets.now) (map (λ t. no) targets.now)) }
+        ensures posts { OnOk result (KeepsPosts self.old self.new) }
+        ensures limit { IfErr result (λ e. IsPastWith e self.old (map (λ t. pair_at self.old.pairs.sets t set) targets.now)) }
+    {
+        for t in targets {
+            self.add(*t, set)?;
             self.labels.push(no)?;
         }
         Ok(())
@@ -114,6 +155,7 @@ impl Exploration {
         requires set { IsSetWithin self.old.pairs.states set.now }
         requires few { length set.now ≤ 19 }
         ensures ok { OnOk result (HasReached self.old self.new (subsets (pair_of state set.now)) []) }
+        ensures posts { OnOk result (KeepsPosts self.old self.new) }
         ensures limit { IfErr result (λ e. IsPastWith e self.old (subsets (pair_of state set.now))) }
     {
         let mut subset = SmallVec::new(alloc);
@@ -129,6 +171,7 @@ impl Exploration {
         requires state { state < self.old.pairs.states }
         requires set { IsSetWithin self.old.pairs.states set.now }
         ensures ok { OnOk result (HasReached self.old self.new (swaps (pair_of state set.now)) []) }
+        ensures posts { OnOk result (KeepsPosts self.old self.new) }
         ensures limit { IfErr result (λ e. IsPastWith e self.old (swaps (pair_of state set.now))) }
     {
         for q in set {
@@ -144,6 +187,7 @@ impl Exploration {
         requires state { state < self.old.pairs.states }
         requires set { IsSetWithin self.old.pairs.states set.now }
         ensures ok { OnOk result (HasReached self.old self.new (pair_of state set.now ∷ []) []) }
+        ensures posts { OnOk result (KeepsPosts self.old self.new) }
         ensures limit { IfErr result (λ e. IsPastWith e self.old (pair_of state set.now ∷ [])) }
     {
         let set_no = self.pairs.number_set(set)?;
@@ -152,10 +196,11 @@ impl Exploration {
     }
 
     // Reaches the pair of the state and the set of the number, and puts its number into the open row.
-    fn add(&mut self, state: u32, set: usize) -> Result<(), ExploreError>
+    fn add(&mut self, state: u32, set: u32) -> Result<(), ExploreError>
         requires state { state < self.old.pairs.states }
         requires set { set < length self.old.pairs.sets }
         ensures ok { OnOk result (HasReached self.old self.new (pair_at self.old.pairs.sets state set ∷ []) []) }
+        ensures posts { OnOk result (KeepsPosts self.old self.new) }
         ensures sets { OnOk result (self.new.pairs.sets ≡ self.old.pairs.sets) }
         ensures limit { IfErr result (λ e. IsPastWith e self.old (pair_at self.old.pairs.sets state set ∷ [])) }
     {

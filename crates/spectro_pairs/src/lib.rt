@@ -4,6 +4,7 @@
 mod arena;
 mod error;
 mod exploration;
+mod known;
 mod pairs;
 mod reaching;
 mod rows;

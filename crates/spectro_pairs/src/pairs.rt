@@ -1,14 +1,14 @@
-ghost use Rattle.std.specs.Prelude.{ℕ, ◌⊎◌, IfSome, ◌≡◌, ◌<◌, ◌≤◌, ◌+◌, ◌*◌, ◌^◌, ◌==◌, [], if◌then◌else◌, length, position, slice_get, All, Some, IfOk, IfErr, OnOk, OnErr};
+ghost use Rattle.std.specs.Prelude.{◌≡◌, ◌<◌, ◌≤◌, ◌+◌, ◌*◌, ◌^◌, ◌==◌, [], if◌then◌else◌, length, position, slice_get, All, Some, IfOk, IfErr, OnOk, OnErr};
 ghost use Rattle.std.specs.Str.{bytes_eq};
 ghost use Rattle.spectro_game.specs.Pairs.{size};
 ghost use Rattle.spectro_game.specs.Reached.{StandsAt};
 ghost use Rattle.spectro_theory.specs.Reaching.{with_last, is_same_pair};
 ghost use Rattle.spectro_pairs.specs.Explored.{IsSetWithin, IsPairWithin};
 ghost use Rattle.spectro_pairs.specs.Interned.{Interned, pair_at, IsPairAt};
-ghost use Rattle.spectro_pairs.specs.Known.{IsPlaceOf, Knows};
 ghost use Rattle.spectro_pairs.specs.Limits.{IsPastLimit};
 
 use crate::ExploreError;
+use crate::known::Known;
 use indexmap::IndexSet;
 use std::alloc::{AllocError, Global};
 use std::marker::Model;
@@ -17,14 +17,17 @@ use std::marker::Model;
 #[derive(Clone, Copy, PartialEq, Eq, Hash)]
 struct Key {
     state: u32,
-    set: usize,
+    set: u32,
 }
+
+// How many sets there may be. Each takes 24 bytes and more.
+const MAX_SETS: usize = 4_294_967_295;
 
 /// Sets of states and pairs of a state and a set, each numbered in the order in which they were found. The game on the
 /// pairs has at most `limit` positions.
 ///
-/// Most look-ups are of pairs that are there, and each costs two reads in tables that fit no cache. So for the first sets
-/// `known` has a row with a place for each state: the number of their pair and 1, or 0 where it was not looked up yet.
+/// Most look-ups are of pairs that are there, and each costs two reads in tables that fit no cache. So `known` keeps their
+/// numbers by set and state.
 #[derive(Drop)]
 pub(crate) struct Pairs {
     states: u32,
@@ -32,7 +35,7 @@ pub(crate) struct Pairs {
     size: u32,
     sets: IndexSet<Vec<u32>>,
     keys: IndexSet<Key>,
-    known: Vec<u32>,
+    known: Known,
 }
 
 impl Model for Pairs {
@@ -42,7 +45,7 @@ impl Model for Pairs {
 
     ghost view = { λ p. interned p.states p.limit p.sets.keys p.keys.keys };
 
-    ghost invariant = { λ p. AreInterned p.states p.limit p.size p.known.items p.sets.keys p.keys.keys };
+    ghost invariant = { λ p. AreInterned p.states p.limit p.size p.known p.sets.keys p.keys.keys };
 }
 
 impl Pairs {
@@ -51,7 +54,7 @@ impl Pairs {
         requires { limit ≤ 1000000 }
         ensures { IfOk result (λ pairs. pairs ≡ record { states = states; limit = limit; sets = []; pairs = [] }) }
     {
-        let known = vec![in alloc; 0u32; limit as usize]?;
+        let known = Known::new(alloc, states, limit as usize)?;
         Ok(Pairs {
             states,
             limit,
@@ -99,7 +102,7 @@ impl Pairs {
         ensures few { length result.now ≤ 19 }
     {
         let key = self.keys[k as usize];
-        self.sets[key.set].as_slice()
+        self.sets[key.set as usize].as_slice()
     }
 
     /// The number of the pair. `None` exactly where it is not there. It takes no memory.
@@ -107,27 +110,32 @@ impl Pairs {
         ensures { result ≡ position (is_same_pair (record { state = state; set = set.now })) self.now.pairs }
     {
         let set = self.sets.get_index_of(set)?;
+        let set = set as u32;
         let k = self.keys.get_index_of(&Key { state, set })?;
         Some(k as u32)
     }
 
     /// The number of the set, which goes last if it is new. A set that is there takes no memory.
-    pub(crate) fn number_set(&mut self, set: &[u32]) -> Result<usize, AllocError>
+    pub(crate) fn number_set(&mut self, set: &[u32]) -> Result<u32, AllocError>
         requires { IsSetWithin self.old.states set.now }
         ensures ok { OnOk result (self.new ≡ record self.old { sets = with_last bytes_eq self.old.sets set.now }) }
         ensures number { IfOk result (λ no. StandsAt self.new.sets no set.now) }
+        ensures bound { IfOk result (λ no. no < 4294967295) }
         ensures err { OnErr result (self.new ≡ self.old) }
     {
         if let Some(no) = self.sets.get_index_of(set) {
-            return Ok(no);
+            return Ok(no as u32);
+        }
+        if self.sets.len() >= MAX_SETS {
+            return Err(AllocError);
         }
         let alloc = *self.sets.allocator();
         let (no, _) = self.sets.insert_full(Vec::from_slice(alloc, set)?)?;
-        Ok(no)
+        Ok(no as u32)
     }
 
     /// The number of the pair of the state and the set of the number. The pair goes last if it is new.
-    pub(crate) fn reach(&mut self, state: u32, set: usize) -> Result<u32, ExploreError>
+    pub(crate) fn reach(&mut self, state: u32, set: u32) -> Result<u32, ExploreError>
         requires state { state < self.old.states }
         requires set { set < length self.old.sets }
         ensures ok { OnOk result (self.new ≡ record self.old { pairs = with_last is_same_pair self.old.pairs (pair_at self.old.sets state set) }) }
@@ -135,16 +143,16 @@ impl Pairs {
         ensures limit { IfErr result (λ e. IsPastLimit e self.old.limit (size (with_last is_same_pair self.old.pairs (pair_at self.old.sets state set)))) }
         ensures err { OnErr result (self.new ≡ self.old) }
     {
-        if let Some(k) = known_number(&self.known, self.states, state, set) {
+        if let Some(k) = self.known.get(set, state) {
             return Ok(k);
         }
         let k = self.number(state, set)?;
-        know(&mut self.known, self.states, state, set, k);
+        self.known.put(set, state, k);
         Ok(k)
     }
 
     // The number of the pair by its key, which goes last if it is new.
-    fn number(&mut self, state: u32, set: usize) -> Result<u32, ExploreError>
+    fn number(&mut self, state: u32, set: u32) -> Result<u32, ExploreError>
         requires state { state < self.old.states }
         requires set { set < length self.old.sets }
         ensures ok { OnOk result (self.new ≡ record self.old { pairs = with_last is_same_pair self.old.pairs (pair_at self.old.sets state set) }) }
@@ -156,43 +164,13 @@ impl Pairs {
         if let Some(k) = self.keys.get_index_of(&key) {
             return Ok(k as u32);
         }
-        let size = u64::from(self.size) + weight(self.sets[set].len());
+        let size = u64::from(self.size) + weight(self.sets[set as usize].len());
         if size > u64::from(self.limit) {
             return Err(ExploreError::TooLarge { at_least: size });
         }
         let (k, _) = self.keys.insert_full(key)?;
         self.size = size as u32;
         Ok(k as u32)
-    }
-}
-
-// Where the number of the pair is kept, if it is.
-fn place(states: u32, state: u32, set: usize) -> usize
-    ensures { IsPlaceOf states state set result }
-{
-    set.saturating_mul(states as usize)
-        .saturating_add(state as usize)
-}
-
-// The number of the pair, where it is kept.
-fn known_number(known: &[u32], states: u32, state: u32, set: usize) -> Option<u32>
-    requires { state < states }
-    ensures { IfSome result (Knows states known.now state set) }
-{
-    known.get(place(states, state, set))?.checked_sub(1)
-}
-
-// Keeps the number of the pair, where it has a place.
-fn know(known: &mut Vec<u32>, states: u32, state: u32, set: usize, k: u32)
-    requires few { length known.old.items ≤ 1000000 }
-    requires state { state < states }
-    requires bound { k < 4294967295 }
-    ensures len { length known.new.items ≡ length known.old.items }
-    ensures knows { (p q n : ℕ) → Knows states known.new.items p q n → Knows states known.old.items p q n ⊎ ((p ≡ state) × (q ≡ set) × (n ≡ k)) }
-{
-    let place = place(states, state, set);
-    if place < known.len() {
-        known[place] = k + 1;
     }
 }
 

@@ -1,5 +1,5 @@
 -- The loop expands each pair once, and ends where no more are found.
-use Rattle.std.proofs.Common.{◌≡◌, ◌<◌, [], length, ap, ◌∙◌, arith}
+use Rattle.std.proofs.Common.{◌≡◌, ◌<◌, length, ap, ◌∙◌, arith}
 use Rattle.std.proofs.lemmas.Result.{err_from_is_err_and}
 use Rattle.spectro_pairs.specs.Interned.{Interned}
 use Rattle.spectro_pairs.proofs.Exploring.{expanded-longer, explored-all, explored-more, explored-none, pairs-some, past-followers, past-starts, places-below, rows-all}
@@ -14,21 +14,23 @@ pub returns-in_err-start-clause-limit : goal.returns-in_err-start-clause-limit
 returns-in_err-start-clause-limit c =
     let p = err_from_is_err_and c.from_residual-in_err-start.result c.from_residual-in_err-start.ensures.1 in
     rw (p.1, p.2)
-    (past-starts c.args.lts.now c.args.starts.now c.in_err-start.field-0.0 c.args.limit c.states.result c.in_ok-exploration.exploration c.in_ok-exploration.ensures.pairs c.in_err-start.ensures.limit)
+    (past-starts c.args.lts.now c.args.starts.now c.in_err-start.field-0.0 c.args.limit c.args.lts.now.states c.in_ok-exploration.exploration c.in_ok-exploration.ensures.pairs c.in_err-start.ensures.limit)
 
 pub loop-k-init : goal.loop-k-init
 loop-k-init c =
-    let made = c.in_ok-exploration.ensures.pairs ∙ ap (λ n. record { states = n; limit = c.args.limit; sets = []; pairs = [] }) c.states.ensures.value in
     record {
       explored =
-          explored-none c.args.lts.now c.args.starts.now c.in_ok-exploration.exploration c.start.new.self c.args.limit made c.in_ok-exploration.ensures.followers c.in_ok-exploration.ensures.labels
-          c.in_ok-start.ensures.ok;
+          explored-none c.args.lts.now c.args.starts.now c.in_ok-exploration.exploration c.start.new.self c.args.limit c.in_ok-exploration.ensures.pairs c.in_ok-exploration.ensures.followers c.in_ok-exploration.ensures.labels
+          c.in_ok-start.ensures.ok (c.in_ok-start.ensures.posts c.args.lts.now c.in_ok-exploration.ensures.posts);
       within = omega arith;
       limit = c.in_ok-start.ensures.ok.limit ∙ ap (λ (p : Interned). p.limit) c.in_ok-exploration.ensures.pairs;
     }
 
 pub expand-requires-clause-states : goal.expand-requires-clause-states
 expand-requires-clause-states c = c.loop-k.invariant.explored.states
+
+pub expand-requires-clause-posts : goal.expand-requires-clause-posts
+expand-requires-clause-posts c = c.loop-k.invariant.explored.posts
 
 pub expand-requires-clause-closed : goal.expand-requires-clause-closed
 expand-requires-clause-closed c = (c.loop-k.invariant.explored.followers_closed, c.loop-k.invariant.explored.labels_closed)
@@ -52,7 +54,7 @@ loop-k-preserved c =
     let has = c.in_ok-expand.ensures.ok in
     let longer = expanded-longer c.args.lts.now c.args.starts.now c.loop-k.exploration c.expand.new.self c.loop-k.k has in
     record {
-      explored = explored-more c.args.lts.now c.args.starts.now c.loop-k.exploration c.expand.new.self c.loop-k.k c.loop-k.invariant.explored has;
+      explored = explored-more c.args.lts.now c.args.starts.now c.loop-k.exploration c.expand.new.self c.loop-k.k c.loop-k.invariant.explored has c.in_ok-expand.ensures.posts;
       within = omega (arith, longer, c.loop-k-test.true, c.len.ensures.value);
       limit = has.limit ∙ c.loop-k.invariant.limit;
     }

@@ -1,15 +1,12 @@
--- The set stays numbered, and the targets so far are reached.
-use Rattle.std.proofs.Common.{map, take}
-use Rattle.spectro_spec.specs.System.{post}
-use Rattle.spectro_game.specs.Reached.{StandsAt}
-use Rattle.spectro_lts.specs.Labels.{label_of}
-use Rattle.spectro_pairs.specs.Growth.{HasReached, pair_of}
+-- The targets so far are reached against the set, which keeps its number.
+use Rattle.std.proofs.Common.{◌≡◌, map, take}
+use Rattle.spectro_pairs.specs.Interned.{pair_at}
+use Rattle.spectro_pairs.specs.Growth.{HasReached, KeepsPosts}
 use Rattle.spectro_pairs.proofs.exploration.Exploration.add_observed.Given as goal
 
 abbrev pub invariant-loop-t : goal.invariant-loop-t
-invariant-loop-t l =
-    let after = post l.lts l.set (label_of l.lts.steps l.no) in
-    record {
-      numbered : StandsAt l.self.pairs.sets l.after after;
-      reached : HasReached l.fn.self l.self (map (λ t. pair_of t after) (take l.t-index l.t-items)) (map (λ t. l.no) (take l.t-index l.t-items));
-    }
+invariant-loop-t l = record {
+  sets : l.self.pairs.sets ≡ l.fn.self.pairs.sets;
+  reached : HasReached l.fn.self l.self (map (λ t. pair_at l.fn.self.pairs.sets t l.set) (take l.t-index l.targets)) (map (λ t. l.no) (take l.t-index l.targets));
+  posts : KeepsPosts l.fn.self l.self;
+}

@@ -7,6 +7,7 @@ use Rattle.spectro_pairs.specs.Interned.{Interned, pair_at}
 use Rattle.spectro_pairs.specs.Growth.{HasReached, IsPastWith, pair_of}
 use Rattle.spectro_pairs.proofs.Growths.{has-next, has-none, has-numbered, past-whole}
 use Rattle.spectro_pairs.proofs.Interning.{pair_at-set}
+use Rattle.spectro_pairs.proofs.Posts.{posts-numbered}
 use Rattle.spectro_pairs.proofs.exploration.Exploration.add_pair.Goals as goal
 use Rattle.spectro_pairs.proofs.exploration.Exploration.add_pair.Goals.{In_ok-set_no}
 
@@ -44,3 +45,7 @@ returns-clause-ok c =
     let is = pair-is (goal.at.returns-clause-ok c).In_ok-set_no in
     let added = subst (λ x. HasReached b c.add.new.self (x ∷ []) []) is c.in_ok-add.ensures.ok in
     has-next a b c.add.new.self [] (x ∷ []) (x ∷ []) [] [] [] has added refl refl
+
+pub returns-clause-posts : goal.returns-clause-posts
+returns-clause-posts c system posts =
+    c.in_ok-add.ensures.posts system (posts-numbered c.args.self.now c.number_set.new.self c.args.set.now c.in_ok-set_no.ensures.ok system posts)

@@ -16,15 +16,15 @@ pair-is : (c : After-as_slice) → pair_of c.args.state c.as_slice.result.now �
 pair-is c = ap (pair_of c.args.state) (c.as_slice.ensures ∙ sym c.in_ok-take_subset.ensures.subset.2)
 
 pub loop-mask-init : goal.loop-mask-init
-loop-mask-init c = has-none c.args.self.now
+loop-mask-init c = record { reached = has-none c.args.self.now; posts = λ system posts. posts }
 
 pub add_pair-requires-clause-state : goal.add_pair-requires-clause-state
-add_pair-requires-clause-state c = omega (arith, c.requires.state, c.loop-mask.invariant.states)
+add_pair-requires-clause-state c = omega (arith, c.requires.state, c.loop-mask.invariant.reached.states)
 
 pub add_pair-requires-clause-set : goal.add_pair-requires-clause-set
 add_pair-requires-clause-set c =
     subst (IsSetWithin c.loop-mask.self.pairs.states) (sym c.as_slice.ensures)
-    (c.in_ok-take_subset.ensures.within c.loop-mask.self.pairs.states (subst (λ n. IsSetWithin n c.args.set.now) (sym c.loop-mask.invariant.states) c.requires.set))
+    (c.in_ok-take_subset.ensures.within c.loop-mask.self.pairs.states (subst (λ n. IsSetWithin n c.args.set.now) (sym c.loop-mask.invariant.reached.states) c.requires.set))
 
 pub returns-in_err-add_pair-clause-limit : goal.returns-in_err-add_pair-clause-limit
 returns-in_err-add_pair-clause-limit c =
@@ -38,7 +38,7 @@ returns-in_err-add_pair-clause-limit c =
     let past = subst (λ x. IsPastWith c.in_err-add_pair.field-0.0 b (x ∷ [])) is c.in_err-add_pair.ensures.limit in
     rw (p.1, p.2)
     (past-whole c.in_err-add_pair.field-0.0 c.args.self.now b (subsets_to state set mask) (pair_of state taken.0.left ∷ [])
-    (map (λ (d : Division). pair_of state d.left) (drop (mask - 1 + 1) (drop 1 (divisions set)))) (subsets (pair_of state set)) c.loop-mask.invariant.limit c.loop-mask.invariant.pairs past
+    (map (λ (d : Division). pair_of state d.left) (drop (mask - 1 + 1) (drop 1 (divisions set)))) (subsets (pair_of state set)) c.loop-mask.invariant.reached.limit c.loop-mask.invariant.reached.pairs past
     (subsets-whole state set mask taken.0 c.loop-mask.auto.mask taken.1))
 
 pub loop-mask-preserved : goal.loop-mask-preserved
@@ -50,10 +50,17 @@ loop-mask-preserved c =
     let taken = c.in_ok-take_subset.ensures.subset in
     let is = pair-is (goal.at.loop-mask-preserved c).After-as_slice in
     let added = subst (λ x. HasReached b c.add_pair.new.self (x ∷ []) []) is c.in_ok-add_pair.ensures.ok in
-    has-next c.args.self.now b c.add_pair.new.self (subsets_to state set mask) (pair_of state taken.0.left ∷ []) (subsets_to state set (mask + 1)) [] [] [] c.loop-mask.invariant added
-    (subsets-more state set mask taken.0 c.loop-mask.auto.mask taken.1) refl
+    record {
+      reached =
+          has-next c.args.self.now b c.add_pair.new.self (subsets_to state set mask) (pair_of state taken.0.left ∷ []) (subsets_to state set (mask + 1)) [] [] [] c.loop-mask.invariant.reached added
+          (subsets-more state set mask taken.0 c.loop-mask.auto.mask taken.1) refl;
+      posts = λ system posts. c.in_ok-add_pair.ensures.posts system (c.loop-mask.invariant.posts system posts);
+    }
 
 pub returns-clause-ok : goal.returns-clause-ok
 returns-clause-ok c =
     let few : 2 ^ length c.args.set.now ≤ 2 ^ 19 = pow-le-pow_right (lit< tt) c.requires.few in
-    subst (λ l. HasReached c.args.self.now c.loop-mask.self l []) (subsets-all c.args.state c.args.set.now c.loop-mask.mask (omega (arith, few, c.loop-mask-test.false))) c.loop-mask.invariant
+    subst (λ l. HasReached c.args.self.now c.loop-mask.self l []) (subsets-all c.args.state c.args.set.now c.loop-mask.mask (omega (arith, few, c.loop-mask-test.false))) c.loop-mask.invariant.reached
+
+pub returns-clause-posts : goal.returns-clause-posts
+returns-clause-posts c = c.loop-mask.invariant.posts

@@ -1,8 +1,11 @@
 -- The subsets of the masks so far are reached.
 use Rattle.std.proofs.Common.{[]}
-use Rattle.spectro_pairs.specs.Growth.{HasReached}
+use Rattle.spectro_pairs.specs.Growth.{HasReached, KeepsPosts}
 use Rattle.spectro_pairs.proofs.Turns.{subsets_to}
 use Rattle.spectro_pairs.proofs.exploration.Exploration.add_subsets.Given as goal
 
 abbrev pub invariant-loop-mask : goal.invariant-loop-mask
-invariant-loop-mask l = HasReached l.fn.self l.self (subsets_to l.state l.set l.mask) []
+invariant-loop-mask l = record {
+  reached : HasReached l.fn.self l.self (subsets_to l.state l.set l.mask) [];
+  posts : KeepsPosts l.fn.self l.self;
+}

@@ -6,6 +6,7 @@ use Rattle.spectro_game.specs.Reached.{StandsAt}
 use Rattle.spectro_pairs.specs.Growth.{HasObserved, HasReached, IsPastWith, pair_of}
 use Rattle.spectro_pairs.proofs.Growths.{closed-opened, has-next, has-then, past-more, past-then}
 use Rattle.spectro_pairs.proofs.Interning.{pair-here}
+use Rattle.spectro_pairs.proofs.Posts.{posts-kept}
 use Rattle.spectro_pairs.proofs.exploration.Exploration.expand.Goals as goal
 use Rattle.spectro_pairs.proofs.exploration.Exploration.expand.Goals.{In_ok-set, In_ok-add_observations, In_ok-add_subsets}
 
@@ -103,3 +104,9 @@ returns-clause-ok c =
       label_rows = closed-opened a.labels f.labels c.close-2.new.self has.label_nos all.labels c.requires.closed.1 c.in_ok-close-2.ensures.ok;
       labelled = has.labelled;
     }
+
+pub returns-clause-posts : goal.returns-clause-posts
+returns-clause-posts c =
+    let f = c.add_swaps.new.self in
+    posts-kept f (record f { followers = c.close.new.self; labels = c.close-2.new.self }) refl (λ n set here. here) c.args.lts.now
+    (c.in_ok-add_swaps.ensures.posts c.args.lts.now (c.in_ok-add_subsets.ensures.posts c.args.lts.now c.in_ok-add_observations.ensures.posts))

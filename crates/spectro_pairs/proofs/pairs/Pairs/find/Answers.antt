@@ -4,7 +4,7 @@ use Rattle.std.specs.List.{list_any}
 use Rattle.std.specs.Str.{bytes_eq}
 use Rattle.spectro_theory.specs.Reaching.{is_same_pair}
 use Rattle.spectro_pairs.specs.Interned.{Interned, lists_of, pairs_of}
-use Rattle.spectro_pairs.proofs.Sets.{any-lists, found-lists}
+use Rattle.spectro_pairs.proofs.Sets.{any-lists, found-lists, length-lists_of}
 use Rattle.spectro_pairs.proofs.Interning.{is_same_key, position-no_set, position-set}
 use Rattle.spectro_pairs.proofs.KeptPairs.{half-limit}
 use Rattle.spectro_pairs.proofs.pairs.Pairs.find.Goals as goal
@@ -28,6 +28,9 @@ returns-in_err-k c =
     subst (λ (v : Interned). c.from_residual-in_err-k.result ≡ position (is_same_pair (record { state = c.args.state; set = c.args.set.now })) v.pairs) c.self.view_is
     (c.from_residual-in_err-k.ensures ∙ c.in_err-k.ensures.index
     ∙ number (goal.at.returns-in_err-k c).In_ok-set)
+
+pub overflow_cast-set : goal.overflow_cast-set
+overflow_cast-set c = omega (arith, c.self.invariant.few, length-lists_of c.self.inside.sets.keys, c.in_ok-set.ensures.within)
 
 pub overflow_cast-result : goal.overflow_cast-result
 overflow_cast-result c =

@@ -6,7 +6,7 @@ use Rattle.spectro_theory.specs.Reaching.{is_same_pair, with_last}
 use Rattle.spectro_theory.proofs.Places.{stands-below}
 use Rattle.spectro_theory.proofs.PutLast.{stands-any}
 use Rattle.spectro_pairs.specs.declared.pairs.Key.{Key}
-use Rattle.spectro_pairs.specs.Known.{Knows}
+use Rattle.spectro_pairs.specs.declared.known.Known.{Known}
 use Rattle.spectro_pairs.specs.Interned.{AreInterned, Interned, interned, lists_of, pair_at}
 use Rattle.spectro_pairs.proofs.Interning.{is_same_key, key-here, same_key-equal, same_key-itself, stands-pairs}
 use Rattle.spectro_pairs.proofs.KeptPairs.{half-limit, interned-known, known-pair}
@@ -18,9 +18,10 @@ key_of state set = record { state = state; set = set }
 
 -- the key stands at the number that is known
 here : (c : In-Some) → StandsAt c.self.inside.keys.keys c.in-Some.k (key_of c.args.state c.args.set)
-here c =
-    c.self.invariant.exact c.args.state c.args.set c.in-Some.k
-    (subst (λ (l : List ℕ). Knows c.self.inside.states l c.args.state c.args.set c.in-Some.k) c.deref.ensures.value c.in-Some.ensures)
+here c = c.self.invariant.exact c.args.set c.args.state c.in-Some.k c.in-Some.ensures
+
+pub get-requires : goal.get-requires
+get-requires c = omega (arith, c.requires.state, c.self.invariant.wide, ap (λ (v : Interned). v.states) c.self.view_is)
 
 pub returns-in-Some-clause-ok : goal.returns-in-Some-clause-ok
 returns-in-Some-clause-ok c =
@@ -42,7 +43,7 @@ returns-in-Some-clause-number c =
     (stands-pairs (lists_of c.self.inside.sets.keys) c.self.inside.keys.keys c.in-Some.k (key_of c.args.state c.args.set) (here (goal.at.returns-in-Some-clause-number c).In-Some))
 
 -- the key stands at the number that was found
-found : (states limit n : ℕ) (known : List ℕ) (sets : List (Vec ℕ Global)) (keys : List Key) → AreInterned states limit n known sets keys
+found : (states limit n : ℕ) (known : Known) (sets : List (Vec ℕ Global)) (keys : List Key) → AreInterned states limit n known sets keys
     → (before now : Interned) → interned states limit sets keys ≡ now → (state set k : ℕ) → now ≡ record before { pairs = with_last is_same_pair before.pairs (pair_at before.sets state set) }
     → set < length before.sets → StandsAt now.pairs k (pair_at before.sets state set) → StandsAt keys k (key_of state set)
 found states limit n known sets keys well before now view state set k put below here =
@@ -51,17 +52,21 @@ found states limit n known sets keys well before now view state set k put below 
     let kept = subst (λ (v : Interned). StandsAt v.pairs k (pair_at v.sets state set)) (sym view) stands in
     key-here (lists_of sets) well.once keys k (key_of state set) (omega (arith, below, ap length same, ap (λ (v : Interned). length v.sets) view)) well.numbered kept
 
-pub know-requires-clause-bound : goal.know-requires-clause-bound
-know-requires-clause-bound c =
+pub put-requires-clause-column : goal.put-requires-clause-column
+put-requires-clause-column c =
+    omega (arith, c.requires.state, c.self-2.invariant.wide, ap (λ (v : Interned). v.states) c.self-2.view_is, ap (λ (v : Interned). v.states) c.in_ok-k.ensures.ok)
+
+pub put-requires-clause-bound : goal.put-requires-clause-bound
+put-requires-clause-bound c =
     let inside = c.self-2.inside in
-    let here = found inside.states inside.limit inside.size inside.known.items inside.sets.keys inside.keys.keys c.self-2.invariant c.args.self.now c.number.new.self c.self-2.view_is
+    let here = found inside.states inside.limit inside.size inside.known inside.sets.keys inside.keys.keys c.self-2.invariant c.args.self.now c.number.new.self c.self-2.view_is
     c.args.state c.args.set c.in_ok-k.k c.in_ok-k.ensures.ok c.requires.set c.in_ok-k.ensures.number in
     let bound = c.self-2.invariant.bound in
-    omega (arith, half-limit c.self-2.invariant, bound, stands-below inside.keys.keys c.in_ok-k.k (key_of c.args.state c.args.set) here)
+    omega (arith, half-limit c.self-2.invariant, bound, stands-below c.self-2.inside.keys.keys c.in_ok-k.k (key_of c.args.state c.args.set) here)
 
 pub invariant_of-self : goal.invariant_of-self
 invariant_of-self c =
     let inside = c.self-2.inside in
-    let here = found inside.states inside.limit inside.size inside.known.items inside.sets.keys inside.keys.keys c.self-2.invariant c.args.self.now c.number.new.self c.self-2.view_is
+    let here = found inside.states inside.limit inside.size inside.known inside.sets.keys inside.keys.keys c.self-2.invariant c.args.self.now c.number.new.self c.self-2.view_is
     c.args.state c.args.set c.in_ok-k.k c.in_ok-k.ensures.ok c.requires.set c.in_ok-k.ensures.number in
-    interned-known c.self-2.invariant c.args.state c.args.set c.in_ok-k.k c.know.new.known.items c.know.ensures.len here c.know.ensures.knows
+    interned-known c.self-2.invariant c.args.set c.args.state c.in_ok-k.k c.put.new.self c.put.ensures.width here c.put.ensures.knows

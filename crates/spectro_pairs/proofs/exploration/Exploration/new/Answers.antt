@@ -1,0 +1,9 @@
+-- No number is put down yet.
+use Rattle.std.proofs.Common.{◌∙◌}
+use Rattle.spectro_pairs.proofs.exploration.Exploration.new.Goals as goal
+
+pub returns-clause-posts : goal.returns-clause-posts
+returns-clause-posts c = record {
+  wide = c.in_ok-new-2.ensures.width ∙ c.label_count.ensures.value;
+  exact = λ q label_no n knows. absurd (c.in_ok-new-2.ensures.nothing q label_no n knows);
+}
