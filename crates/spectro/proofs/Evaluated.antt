@@ -8,6 +8,7 @@ use Rattle.spectro_spec.specs.Pricing.{price}
 use Rattle.spectro_spec.specs.Weighing.{Weighing}
 use Rattle.spectro_io.specs.Shelves.{Texts}
 use Rattle.spectro_hmltext.specs.FormulaTexts.{IsFormulaText}
+use Rattle.spectro_words.specs.Words.{Word}
 use Rattle.spectro.specs.declared.status.Status.{Status}
 use Rattle.spectro.specs.declared.status.Status.TheVariants.{Done}
 use Rattle.spectro.specs.declared.status.Which.TheVariants.{Left}
@@ -17,7 +18,6 @@ use Rattle.spectro.specs.Commands.Eval.{EvalGives, no_system, no_formula, no_wei
 use Rattle.spectro.specs.Stops as stops
 use Rattle.spectro.specs.Stops.{IsStopped}
 use Rattle.spectro.specs.Weighted.{GivesWeighing, RefusesWeights, parts_shown}
-use Rattle.spectro.specs.Words.{Word}
 use Rattle.spectro.proofs.Finished.{told_both, told_map, stopped_map}
 
 module _ (word file : Word) (weights : Option Word) where

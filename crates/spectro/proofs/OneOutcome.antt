@@ -17,6 +17,9 @@ use Rattle.spectro_hmltext.specs.declared.error.TextFault.{TextFault}
 use Rattle.spectro_weights.specs.Laws as weightings
 use Rattle.spectro_weights.specs.WeightTexts.{IsWeightText}
 use Rattle.spectro_weights.specs.declared.error.WeightFault.{WeightFault}
+use Rattle.spectro_words.specs.Commands as commands
+use Rattle.spectro_words.specs.Commands.{Command}
+use Rattle.spectro_words.specs.Words.{Word}
 use Rattle.spectro.specs.declared.status.Status.{Status}
 use Rattle.spectro.specs.declared.status.Status.TheVariants.{BadText}
 use Rattle.spectro.specs.declared.status.Which.TheVariants.{Left, Formula as FormulaText, Weights}
@@ -27,8 +30,6 @@ use Rattle.spectro.specs.Commands.Eval.{EvalGives, SaysTruth, no_system, no_form
 use Rattle.spectro.specs.Commands.Price as pricing
 use Rattle.spectro.specs.Commands.Rewrite as rewriting
 use Rattle.spectro.specs.Outcome.{CommandOutcome}
-use Rattle.spectro.specs.Words as words
-use Rattle.spectro.specs.Words.{Word, Command}
 use Rattle.spectro.proofs.SystemTexts.{refused_file, same_file_refusal, same_held}
 use Rattle.spectro.proofs.OneSize.{one_size}
 
@@ -158,10 +159,10 @@ module _
 
     pub one_of_command : (asked : Option Command) (texts : Texts) (one other : Status) (bytes more : List ℕ) → CommandOutcome asked texts one bytes → CommandOutcome asked texts other more → AreSame one other bytes more
     one_of_command None texts one other bytes more first second = record { status = first.0 ∙ sym second.0; output = first.1 ∙ sym second.1 }
-    one_of_command (Some (words.eval formula file weights)) texts one other bytes more first second =
+    one_of_command (Some (commands.eval formula file weights)) texts one other bytes more first second =
         one_answer texts formula weights file bytes more one other first second
-    one_of_command (Some (words.rewrite file)) texts one other bytes more first second = one_rewriting texts file bytes more one other first second
-    one_of_command (Some (words.price formula weights)) texts one other bytes more first second = one_pricing texts formula weights bytes more one other first second
-    one_of_command (Some (words.size left right limit)) texts one other bytes more first second =
+    one_of_command (Some (commands.rewrite file)) texts one other bytes more first second = one_rewriting texts file bytes more one other first second
+    one_of_command (Some (commands.price formula weights)) texts one other bytes more first second = one_pricing texts formula weights bytes more one other first second
+    one_of_command (Some (commands.size left right limit)) texts one other bytes more first second =
         let same = one_size one_system one_fault no_fault one_list texts left right limit bytes more one other first second in
         record { status = same.0; output = same.1 }

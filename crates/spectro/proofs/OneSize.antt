@@ -7,11 +7,11 @@ use Rattle.spectro_game.specs.Pairs.{Pair}
 use Rattle.spectro_theory.specs.LawsOfPairs.{ReachedPairsAreOne}
 use Rattle.spectro_io.specs.Shelves.{Texts}
 use Rattle.spectro_aut.specs.Laws.{EachTextHasAtMostOneSystem, EachTextHasAtMostOneFirstFault, TextsOfSystemsHaveNoFault}
+use Rattle.spectro_words.specs.Words.{Word}
 use Rattle.spectro.specs.declared.status.Status.{Status}
 use Rattle.spectro.specs.declared.status.Which.TheVariants.{Left, Right}
 use Rattle.spectro.specs.Refusals.{HoldsSystem}
 use Rattle.spectro.specs.Commands.Size.{SizeGives, AreCompared, size_line, no_left, no_right, too_large, sized}
-use Rattle.spectro.specs.Words.{Word}
 use Rattle.spectro.proofs.SystemTexts.{refused_file, same_file_refusal, same_held}
 
 module _ (one_system : EachTextHasAtMostOneSystem) (one_fault : EachTextHasAtMostOneFirstFault) (no_fault : TextsOfSystemsHaveNoFault) (one_list : ReachedPairsAreOne) where

@@ -11,6 +11,7 @@ use Rattle.spectro_pairs.specs.Explored.{start_pairs}
 use Rattle.spectro_pairs.specs.Limits.{IsPastLimit}
 use Rattle.spectro_pairs.specs.declared.error.ExploreError.TheVariants.{TooLarge}
 use Rattle.spectro_io.specs.Shelves.{Texts}
+use Rattle.spectro_words.specs.Words.{Word}
 use Rattle.spectro.specs.declared.status.Status.{Status}
 use Rattle.spectro.specs.declared.status.Status.TheVariants.{Done}
 use Rattle.spectro.specs.declared.status.Which.TheVariants.{Left, Right}
@@ -18,7 +19,6 @@ use Rattle.spectro.specs.Commands.Size.{AreCompared, IsMeasured, IsUnmeasured, S
 use Rattle.spectro.specs.Refusals.{HoldsSystem, RefusesFile}
 use Rattle.spectro.specs.Stops as stops
 use Rattle.spectro.specs.Stops.{IsStopped}
-use Rattle.spectro.specs.Words.{Word}
 use Rattle.spectro.proofs.Finished.{told_both, told_map, stopped_map}
 
 -- ---- the pairs of the comparison

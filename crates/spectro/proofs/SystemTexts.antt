@@ -9,6 +9,7 @@ use Rattle.spectro_aut.specs.Faults.{IsFirstFault}
 use Rattle.spectro_aut.specs.Laws.{EachTextHasAtMostOneFirstFault, EachTextHasAtMostOneSystem, TextsOfSystemsHaveNoFault}
 use Rattle.spectro_aut.specs.declared.error.AutFault.{AutFault}
 use Rattle.spectro_aut.proofs.LongTexts.{fault_of_read_front, read_front_no_text}
+use Rattle.spectro_words.specs.Words.{Word}
 use Rattle.spectro.specs.declared.status.Status.{Status}
 use Rattle.spectro.specs.declared.status.Status.TheVariants.{BadText}
 use Rattle.spectro.specs.declared.status.Which.{Which}
@@ -17,7 +18,6 @@ use Rattle.spectro.specs.Causes.{HasRead, HoldsNothing, OrMemory}
 use Rattle.spectro.specs.Refusals.{HoldsSystem, IsTextOf, RefusesFile, RefusesSystem}
 use Rattle.spectro.specs.Stops as stops
 use Rattle.spectro.specs.Stops.{IsStopped}
-use Rattle.spectro.specs.Words.{Word}
 use Rattle.spectro.proofs.Finished.{told_map}
 use Rattle.spectro.proofs.ReadFronts.{whole_from_front}
 

@@ -6,12 +6,12 @@ use Rattle.spectro_spec.specs.Weighing.{Weighing}
 use Rattle.spectro_weights.specs.WeightTexts.{IsWeightText}
 use Rattle.spectro_weights.specs.Faults.{IsFirstFault}
 use Rattle.spectro_weights.proofs.LongTexts.{fault_of_read_front, read_front_no_text}
+use Rattle.spectro_words.specs.Words.{Word}
 use Rattle.spectro.specs.declared.status.Status.{Status}
 use Rattle.spectro.specs.Causes.{HasRead, LacksWeights, OrMemory}
 use Rattle.spectro.specs.Refusals.{RefusesWeighing}
 use Rattle.spectro.specs.Stops.{IsStopped, no_memory, refused}
 use Rattle.spectro.specs.Weighted.{GivesWeighing, RefusesHeld, RefusesWeights}
-use Rattle.spectro.specs.Words.{Word}
 use Rattle.spectro.proofs.Finished.{told_map}
 use Rattle.spectro.proofs.ReadFronts.{whole_from_front}
 

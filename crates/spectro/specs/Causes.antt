@@ -4,7 +4,8 @@ use Rattle.spectro_io.specs.Faults.{Rose}
 use Rattle.spectro_io.specs.Limits.{read_limit}
 use Rattle.spectro_io.specs.Shelves.{Texts}
 use Rattle.spectro_aut.specs.Feeding.{Fed, HasTaken}
-use Rattle.spectro.specs.Words.{Word, Command, eval, rewrite, price, size}
+use Rattle.spectro_words.specs.Commands.{Command, eval, rewrite, price, size}
+use Rattle.spectro_words.specs.Words.{Word}
 use Rattle.spectro.specs.declared.status.Status.{Status}
 use Rattle.spectro.specs.declared.status.Status.TheVariants.{Usage, ReadFault, WriteFault, OutOfMemory}
 

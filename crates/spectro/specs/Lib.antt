@@ -1,6 +1,4 @@
 pub mod Feeds
-pub mod Words
-pub mod Asked
 pub mod Refusals
 pub mod Weighted
 pub mod Notation

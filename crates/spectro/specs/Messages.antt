@@ -7,7 +7,9 @@ use Rattle.spectro_io.specs.Faults.{Rose}
 use Rattle.spectro_aut.specs.Kinds as aut
 use Rattle.spectro_hmltext.specs.Kinds as hmltext
 use Rattle.spectro_weights.specs.Kinds as weights
-use Rattle.spectro.specs.Words.{Word, Command, eval, rewrite, price, size, command}
+use Rattle.spectro_words.specs.Commands.{Command, eval, rewrite, price, size}
+use Rattle.spectro_words.specs.Reading.{command}
+use Rattle.spectro_words.specs.Words.{Word}
 use Rattle.spectro.specs.declared.status.BadText as declared
 use Rattle.spectro.specs.declared.status.Kind.{Kind}
 use Rattle.spectro.specs.declared.status.Kind.TheVariants as kinds

@@ -3,11 +3,13 @@ use Rattle.std.specs.Prelude.{ℕ, ◌≡◌, List, [], Option, None, Some}
 use Rattle.std.specs.Io.KnownBytes.{Appends, Keeps}
 use Rattle.spectro_io.specs.Shelves.{Texts}
 use Rattle.spectro_io.specs.Bytes.{AppendsPart}
+use Rattle.spectro_words.specs.Commands.{Command, eval, rewrite, price, size}
+use Rattle.spectro_words.specs.Reading.{command}
+use Rattle.spectro_words.specs.Words.{Word}
 use Rattle.spectro.specs.Commands.Eval.{EvalGives}
 use Rattle.spectro.specs.Commands.Rewrite.{RewriteGives}
 use Rattle.spectro.specs.Commands.Price.{PriceGives}
 use Rattle.spectro.specs.Commands.Size.{SizeGives}
-use Rattle.spectro.specs.Words.{Word, Command, eval, rewrite, price, size, command}
 use Rattle.spectro.specs.declared.status.Status.{Status}
 use Rattle.spectro.specs.declared.status.Status.TheVariants.{Done, No, Usage, ReadFault, WriteFault, OutOfMemory}
 

@@ -5,8 +5,8 @@ use Rattle.spectro_io.specs.Shelves.{Texts}
 use Rattle.spectro_energy.specs.declared.parts.Parts.{Parts}
 use Rattle.spectro_energy.specs.declared.parts.Parts.TheVariants.{Six, Seven}
 use Rattle.spectro_weights.specs.WeightTexts.{IsWeightText}
+use Rattle.spectro_words.specs.Words.{Word}
 use Rattle.spectro.specs.Refusals.{RefusesWeighing}
-use Rattle.spectro.specs.Words.{Word}
 use Rattle.spectro.specs.declared.status.Status.{Status}
 use Rattle.spectro.specs.declared.status.Status.TheVariants.{ReadFault}
 

@@ -13,7 +13,6 @@ mod status;
 mod tests;
 mod texts;
 mod unique;
-mod words;
 
 use devices::{FileShelf, StderrSink, StdinSource, StdoutSink};
 use std::process::ExitCode;

@@ -2,14 +2,14 @@ ghost use Rattle.std.specs.Prelude.{◌≡◌};
 ghost use Rattle.std.specs.Option.{option_map};
 ghost use Rattle.spectro_io.specs.Bytes.{WritesWhole};
 ghost use Rattle.spectro_io.specs.Faults.{HasCause};
-ghost use Rattle.spectro.specs.Asked.{asked};
+ghost use Rattle.spectro_words.specs.Asked.{asked};
 ghost use Rattle.spectro.specs.Messages.{IsUntold, command_message, fault_text, text_name};
 
 use crate::pieces::{Piece, write_pieces};
 use crate::status::{BadText, Kind, Status, Which};
-use crate::words::Command;
 use spectro_aut::AutKind;
 use spectro_io::{Failed, Sink, write_whole};
+use spectro_words::Command;
 
 // How the text of the command is called.
 fn text_name<'a>(which: Which, command: Option<Command<'a>>) -> &'a str

@@ -4,7 +4,7 @@ ghost use Rattle.std.specs.Prelude.{◌≡◌, ◌++◌};
 ghost use Rattle.spectro_energy.specs.Energy.{price_of};
 ghost use Rattle.spectro_io.specs.Batches.{Puts};
 ghost use Rattle.spectro_io.specs.Faults.{HasCause};
-ghost use Rattle.spectro.specs.Asked.{named};
+ghost use Rattle.spectro_words.specs.Words.{named};
 ghost use Rattle.spectro.specs.Notation.{price_line};
 ghost use Rattle.spectro.specs.Weighted.{parts_shown};
 

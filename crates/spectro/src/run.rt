@@ -1,10 +1,12 @@
 ghost use Rattle.std.specs.Prelude.{◌≡◌, None, IfSome};
 ghost use Rattle.std.specs.Option.{option_map};
-ghost use Rattle.spectro.specs.Asked.{asked};
+ghost use Rattle.spectro_words.specs.Asked.{asked};
+ghost use Rattle.spectro_words.specs.Commands.{HasLimit};
+ghost use Rattle.spectro_words.specs.Reading.{command};
+ghost use Rattle.spectro_words.specs.Words.{words_of};
 ghost use Rattle.spectro.specs.Causes.{HasCauses};
 ghost use Rattle.spectro.specs.Messages.{IsUntold, Tells, message};
 ghost use Rattle.spectro.specs.Outcome.{Answers, CommandOutcome, IsOutcome, IsSilent};
-ghost use Rattle.spectro.specs.Words.{HasLimit, command, words_of};
 
 use crate::commands::eval::eval;
 use crate::commands::price::price;
@@ -12,8 +14,8 @@ use crate::commands::rewrite::rewrite;
 use crate::commands::size::size;
 use crate::message::write_message;
 use crate::status::Status;
-use crate::words::{Command, command_of};
 use spectro_io::{Shelf, Sink, Source};
+use spectro_words::{Command, command_of};
 use std::alloc::Global;
 
 // Does what the command asks for.

@@ -6,7 +6,7 @@ ghost use Rattle.spectro_io.specs.Faults.{Rose};
 ghost use Rattle.spectro_aut.specs.Feeding.{HasTaken};
 ghost use Rattle.spectro_hmltext.specs.Parsing.{IsParsed};
 ghost use Rattle.spectro_weights.specs.WeightTexts.{IsWeightText};
-ghost use Rattle.spectro.specs.Asked.{named};
+ghost use Rattle.spectro_words.specs.Words.{named};
 ghost use Rattle.spectro.specs.Causes.{HoldsNothing, HasRead, HasTakenText, KeepsCount, LacksWeights, OrMemory, IsUnread};
 ghost use Rattle.spectro.specs.Feeds.{TakesAll};
 ghost use Rattle.spectro.specs.Refusals.{HoldsSystem, IsTextOf, RefusesFile, RefusesSystem, RefusesFormula, RefusesWeighing};

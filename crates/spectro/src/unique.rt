@@ -1,8 +1,8 @@
 ghost use Rattle.std.specs.Prelude.{◌≡◌, ℕ, List};
 ghost use Rattle.spectro_io.specs.Shelves.{Texts};
+ghost use Rattle.spectro_words.specs.Words.{Word};
 ghost use Rattle.spectro.specs.declared.status.Status.{Status};
 ghost use Rattle.spectro.specs.Outcome.{IsOutcome};
-ghost use Rattle.spectro.specs.Words.{Word};
 
 use spectro_aut::{
     a_text_has_at_most_one_first_fault, a_text_has_at_most_one_system,

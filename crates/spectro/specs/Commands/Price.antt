@@ -8,10 +8,10 @@ use Rattle.spectro_io.specs.Shelves.{Texts}
 use Rattle.spectro_energy.specs.declared.parts.Parts.{Parts}
 use Rattle.spectro_hmltext.specs.FormulaTexts.{IsFormulaText}
 use Rattle.spectro_hmltext.specs.Printed.{formula_text}
+use Rattle.spectro_words.specs.Words.{Word}
 use Rattle.spectro.specs.Notation.{price_line}
 use Rattle.spectro.specs.Refusals.{RefusesFormula}
 use Rattle.spectro.specs.Weighted.{GivesWeighing, RefusesWeights, parts_shown}
-use Rattle.spectro.specs.Words.{Word}
 use Rattle.spectro.specs.declared.status.Status.{Status}
 use Rattle.spectro.specs.declared.status.Status.TheVariants.{Done}
 

@@ -3,8 +3,8 @@ use Rattle.std.specs.Prelude.{ℕ, ◌≡◌, List, []}
 use Rattle.spectro_spec.specs.System.{System}
 use Rattle.spectro_aut.specs.Written.{text_of}
 use Rattle.spectro_io.specs.Shelves.{Texts}
+use Rattle.spectro_words.specs.Words.{Word}
 use Rattle.spectro.specs.Refusals.{HoldsSystem, RefusesFile}
-use Rattle.spectro.specs.Words.{Word}
 use Rattle.spectro.specs.declared.status.Status.{Status}
 use Rattle.spectro.specs.declared.status.Status.TheVariants.{Done}
 use Rattle.spectro.specs.declared.status.Which.TheVariants.{Left}

@@ -5,8 +5,8 @@ use Rattle.spectro_spec.specs.System.{System, join}
 use Rattle.spectro_game.specs.Pairs as game
 use Rattle.spectro_game.specs.Pairs.{Pair, AreReachedPairs}
 use Rattle.spectro_io.specs.Shelves.{Texts}
+use Rattle.spectro_words.specs.Words.{Word}
 use Rattle.spectro.specs.Refusals.{HoldsSystem, RefusesFile}
-use Rattle.spectro.specs.Words.{Word}
 use Rattle.spectro.specs.declared.status.Status.{Status}
 use Rattle.spectro.specs.declared.status.Status.TheVariants.{Done, TooLarge, OutOfMemory}
 use Rattle.spectro.specs.declared.status.Which.TheVariants.{Left, Right}

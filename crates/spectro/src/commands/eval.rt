@@ -5,14 +5,14 @@ ghost use Rattle.spectro_energy.specs.Energy.{price_of};
 ghost use Rattle.spectro_hml.specs.Sheets.{unfolded};
 ghost use Rattle.spectro_io.specs.Bytes.{WritesWhole};
 ghost use Rattle.spectro_io.specs.Faults.{HasCause, Rose};
-ghost use Rattle.spectro.specs.Asked.{named};
+ghost use Rattle.spectro_words.specs.Commands as commands;
+ghost use Rattle.spectro_words.specs.Words.{named};
 ghost use Rattle.spectro.specs.Causes.{HasCauses, KeepsCount, LacksFile};
 ghost use Rattle.spectro.specs.Commands.Eval.{EvalGives, eval_text};
 ghost use Rattle.spectro.specs.Notation.{truth_line};
 ghost use Rattle.spectro.specs.Outcome.{Answers, CommandOutcome, Finishes, IsSilent};
 ghost use Rattle.spectro.specs.Stops.{IsStopped};
 ghost use Rattle.spectro.specs.Weighted.{parts_shown};
-ghost use Rattle.spectro.specs.Words as words;
 
 use crate::cost::cost_of;
 use crate::output::{parts_shown, put_price_line};
@@ -63,7 +63,7 @@ fn evaluate<H: Shelf>(
     shelf: &mut H,
 ) -> Result<Answer, Status>
     ensures ok { IfOk result (λ answer. IfSome (H.texts shelf.old) (λ texts. EvalGives texts formula.now file.now (named weights.entry) Status.Done (eval_text answer.truth (parts_shown (named weights.entry)) (price_of answer.price.parts)))) }
-    ensures stopped { IfErr result (λ status. IsStopped (H.texts shelf.old) (λ texts. EvalGives texts formula.now file.now (named weights.entry)) (LacksFile (H.texts shelf.old) (Some (words.eval formula.now file.now (named weights.entry)))) (H.faults shelf.old) (H.faults shelf.new) status) }
+    ensures stopped { IfErr result (λ status. IsStopped (H.texts shelf.old) (λ texts. EvalGives texts formula.now file.now (named weights.entry)) (LacksFile (H.texts shelf.old) (Some (commands.eval formula.now file.now (named weights.entry)))) (H.faults shelf.old) (H.faults shelf.new) status) }
     ensures texts { H.texts shelf.new ≡ H.texts shelf.old }
     ensures later { H.faults shelf.old ≤ H.faults shelf.new }
     ensures kept { KeepsCount (H.faults shelf.old) (H.faults shelf.new) result }
@@ -111,8 +111,8 @@ pub fn eval<H: Shelf, O: Sink>(
     shelf: &mut H,
     out: &mut O,
 ) -> Status
-    ensures answer { IfSome (H.texts shelf.old) (λ texts. Answers (CommandOutcome (Some (words.eval formula.now file.now (named weights.entry))) texts) result (O.written out.old) (O.written out.new)) }
-    ensures causes { HasCauses (H.texts shelf.old) (Some (words.eval formula.now file.now (named weights.entry))) (record { shelf_before = H.faults shelf.old; shelf_now = H.faults shelf.new; out_before = O.faults out.old; out_now = O.faults out.new }) result }
+    ensures answer { IfSome (H.texts shelf.old) (λ texts. Answers (CommandOutcome (Some (commands.eval formula.now file.now (named weights.entry))) texts) result (O.written out.old) (O.written out.new)) }
+    ensures causes { HasCauses (H.texts shelf.old) (Some (commands.eval formula.now file.now (named weights.entry))) (record { shelf_before = H.faults shelf.old; shelf_now = H.faults shelf.new; out_before = O.faults out.old; out_now = O.faults out.new }) result }
     ensures silent { IsSilent result out.old out.new }
     ensures texts { H.texts shelf.new ≡ H.texts shelf.old }
 {

@@ -4,13 +4,13 @@ ghost use Rattle.spectro_hml.specs.Sheets.{unfolded};
 ghost use Rattle.spectro_hmltext.specs.Printed.{formula_text};
 ghost use Rattle.spectro_io.specs.Bytes.{WritesWhole};
 ghost use Rattle.spectro_io.specs.Faults.{HasCause, Rose};
-ghost use Rattle.spectro.specs.Asked.{named};
+ghost use Rattle.spectro_words.specs.Commands as commands;
+ghost use Rattle.spectro_words.specs.Words.{named};
 ghost use Rattle.spectro.specs.Causes.{HasCauses, KeepsCount, LacksWeights};
 ghost use Rattle.spectro.specs.Commands.Price.{PriceGives, priced_text};
 ghost use Rattle.spectro.specs.Outcome.{Answers, CommandOutcome, Finishes, IsSilent};
 ghost use Rattle.spectro.specs.Stops.{IsStopped};
 ghost use Rattle.spectro.specs.Weighted.{parts_shown};
-ghost use Rattle.spectro.specs.Words as words;
 
 use crate::cost::cost_of;
 use crate::output::{parts_shown, put_price_line};
@@ -94,8 +94,8 @@ pub fn price<H: Shelf, O: Sink>(
     shelf: &mut H,
     out: &mut O,
 ) -> Status
-    ensures answer { IfSome (H.texts shelf.old) (λ texts. Answers (CommandOutcome (Some (words.price formula.now (named weights.entry))) texts) result (O.written out.old) (O.written out.new)) }
-    ensures causes { HasCauses (H.texts shelf.old) (Some (words.price formula.now (named weights.entry))) (record { shelf_before = H.faults shelf.old; shelf_now = H.faults shelf.new; out_before = O.faults out.old; out_now = O.faults out.new }) result }
+    ensures answer { IfSome (H.texts shelf.old) (λ texts. Answers (CommandOutcome (Some (commands.price formula.now (named weights.entry))) texts) result (O.written out.old) (O.written out.new)) }
+    ensures causes { HasCauses (H.texts shelf.old) (Some (commands.price formula.now (named weights.entry))) (record { shelf_before = H.faults shelf.old; shelf_now = H.faults shelf.new; out_before = O.faults out.old; out_now = O.faults out.new }) result }
     ensures silent { IsSilent result out.old out.new }
     ensures texts { H.texts shelf.new ≡ H.texts shelf.old }
 {

@@ -1,9 +1,9 @@
 ghost use Rattle.std.specs.Prelude.{◌≡◌, ◌≢◌, Some, IfSome};
 ghost use Rattle.spectro_io.specs.Faults.{Rose};
 ghost use Rattle.spectro_aut.specs.Written.{text_of};
+ghost use Rattle.spectro_words.specs.Commands as commands;
 ghost use Rattle.spectro.specs.Causes.{HasCauses};
 ghost use Rattle.spectro.specs.Outcome.{Answers, CommandOutcome, Finishes, IsSilent};
-ghost use Rattle.spectro.specs.Words as words;
 
 use crate::status::{Status, Which};
 use crate::texts::take_system;
@@ -25,8 +25,8 @@ fn write_system<O: Sink>(lts: &Lts, out: &mut O) -> Status
 
 /// Writes the text of the file's system.
 pub fn rewrite<H: Shelf, O: Sink>(alloc: Global, file: &str, shelf: &mut H, out: &mut O) -> Status
-    ensures answer { IfSome (H.texts shelf.old) (λ texts. Answers (CommandOutcome (Some (words.rewrite file.now)) texts) result (O.written out.old) (O.written out.new)) }
-    ensures causes { HasCauses (H.texts shelf.old) (Some (words.rewrite file.now)) (record { shelf_before = H.faults shelf.old; shelf_now = H.faults shelf.new; out_before = O.faults out.old; out_now = O.faults out.new }) result }
+    ensures answer { IfSome (H.texts shelf.old) (λ texts. Answers (CommandOutcome (Some (commands.rewrite file.now)) texts) result (O.written out.old) (O.written out.new)) }
+    ensures causes { HasCauses (H.texts shelf.old) (Some (commands.rewrite file.now)) (record { shelf_before = H.faults shelf.old; shelf_now = H.faults shelf.new; out_before = O.faults out.old; out_now = O.faults out.new }) result }
     ensures silent { IsSilent result out.old out.new }
     ensures texts { H.texts shelf.new ≡ H.texts shelf.old }
 {

@@ -2,12 +2,12 @@ ghost use Rattle.std.specs.Prelude.{◌≡◌, ◌≢◌, ◌≤◌, [], ◌∷�
 ghost use Rattle.spectro_aut.specs.RoundTrip.{KeepsLimits};
 ghost use Rattle.spectro_io.specs.Bytes.{WritesWhole};
 ghost use Rattle.spectro_io.specs.Faults.{HasCause, Rose};
+ghost use Rattle.spectro_words.specs.Commands as commands;
+ghost use Rattle.spectro_words.specs.Limits.{IsLimit};
 ghost use Rattle.spectro.specs.Causes.{HasCauses, KeepsCount, LacksFile};
 ghost use Rattle.spectro.specs.Commands.Size.{SizeGives, IsMeasured, IsUnmeasured, size_line};
 ghost use Rattle.spectro.specs.Outcome.{Answers, CommandOutcome, Finishes, IsSilent};
 ghost use Rattle.spectro.specs.Stops.{IsStopped};
-ghost use Rattle.spectro.specs.Words as words;
-ghost use Rattle.spectro.specs.Words.{IsLimit};
 
 use crate::pieces::{Piece, write_pieces};
 use crate::status::{Status, Which};
@@ -55,7 +55,7 @@ fn find_size<H: Shelf>(
 ) -> Result<Extent, Status>
     requires limit { IsLimit limit }
     ensures ok { IfOk result (λ extent. IfSome (H.texts shelf.old) (λ texts. SizeGives texts left.now right.now limit Status.Done (size_line extent.pairs extent.positions))) }
-    ensures stopped { IfErr result (λ status. IsStopped (H.texts shelf.old) (λ texts. SizeGives texts left.now right.now limit) (LacksFile (H.texts shelf.old) (Some (words.size left.now right.now limit))) (H.faults shelf.old) (H.faults shelf.new) status) }
+    ensures stopped { IfErr result (λ status. IsStopped (H.texts shelf.old) (λ texts. SizeGives texts left.now right.now limit) (LacksFile (H.texts shelf.old) (Some (commands.size left.now right.now limit))) (H.faults shelf.old) (H.faults shelf.new) status) }
     ensures texts { H.texts shelf.new ≡ H.texts shelf.old }
     ensures later { H.faults shelf.old ≤ H.faults shelf.new }
     ensures kept { KeepsCount (H.faults shelf.old) (H.faults shelf.new) result }
@@ -102,8 +102,8 @@ pub fn size<H: Shelf, O: Sink>(
     out: &mut O,
 ) -> Status
     requires limit { IsLimit limit }
-    ensures answer { IfSome (H.texts shelf.old) (λ texts. Answers (CommandOutcome (Some (words.size left.now right.now limit)) texts) result (O.written out.old) (O.written out.new)) }
-    ensures causes { HasCauses (H.texts shelf.old) (Some (words.size left.now right.now limit)) (record { shelf_before = H.faults shelf.old; shelf_now = H.faults shelf.new; out_before = O.faults out.old; out_now = O.faults out.new }) result }
+    ensures answer { IfSome (H.texts shelf.old) (λ texts. Answers (CommandOutcome (Some (commands.size left.now right.now limit)) texts) result (O.written out.old) (O.written out.new)) }
+    ensures causes { HasCauses (H.texts shelf.old) (Some (commands.size left.now right.now limit)) (record { shelf_before = H.faults shelf.old; shelf_now = H.faults shelf.new; out_before = O.faults out.old; out_now = O.faults out.new }) result }
     ensures silent { IsSilent result out.old out.new }
     ensures texts { H.texts shelf.new ≡ H.texts shelf.old }
 {

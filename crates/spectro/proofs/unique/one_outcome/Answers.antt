@@ -1,4 +1,4 @@
-use Rattle.spectro.specs.Words.{command}
+use Rattle.spectro_words.specs.Reading.{command}
 use Rattle.spectro.proofs.OneOutcome.{one_of_command}
 use Rattle.spectro.proofs.unique.one_outcome.Goals as goal
 

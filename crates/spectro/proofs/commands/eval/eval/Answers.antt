@@ -1,4 +1,4 @@
-use Rattle.spectro.specs.Asked.{named}
+use Rattle.spectro_words.specs.Words.{named}
 use Rattle.spectro.specs.Commands.Eval.{EvalGives}
 use Rattle.spectro.proofs.Finished.{finished_answer, stopped_answer}
 use Rattle.spectro.proofs.commands.eval.eval.Goals as goal

@@ -1,0 +1,3 @@
+pub mod OptionWords
+pub mod Verbs
+pub mod FilledForms

@@ -1,0 +1,45 @@
+-- The grammar of the words: all forms, and which words are which command.
+use Rattle.std.specs.Prelude.{◌≡◌, List, [], ◌∷◌, Contains, Option, None, Some, codes}
+use Rattle.std.specs.Option.{option_map}
+use Rattle.spectro_words.specs.Words.{Word}
+use Rattle.spectro_words.specs.Limits.{limit_of}
+use Rattle.spectro_words.specs.Commands.{Command, eval, rewrite, price, size}
+use Rattle.spectro_words.specs.Forms.{Form, Fill}
+
+-- FORMULA FILE [--weights W]
+abbrev pub eval_of : List Word → List (Option Word) → Option Command
+eval_of (formula ∷ file ∷ []) (weights ∷ []) = Some (eval formula file weights)
+eval_of placed given = None
+
+-- FILE
+abbrev pub rewrite_of : List Word → List (Option Word) → Option Command
+rewrite_of (file ∷ []) [] = Some (rewrite file)
+rewrite_of placed given = None
+
+-- FORMULA [--weights W]
+abbrev pub price_of : List Word → List (Option Word) → Option Command
+price_of (formula ∷ []) (weights ∷ []) = Some (price formula weights)
+price_of placed given = None
+
+-- LEFT RIGHT [--limit N]
+abbrev pub size_of : List Word → List (Option Word) → Option Command
+size_of (left ∷ right ∷ []) (limit ∷ []) = option_map (size left right) (limit_of limit)
+size_of placed given = None
+
+-- the forms, one a line
+abbrev pub forms : List Form
+forms =
+    record { verb = codes "eval"; places = 2; options = codes "--weights" ∷ []; command = eval_of }
+    ∷ (record { verb = codes "rewrite"; places = 1; options = []; command = rewrite_of }
+    ∷ (record { verb = codes "price"; places = 1; options = codes "--weights" ∷ []; command = price_of }
+    ∷ (record { verb = codes "size"; places = 2; options = codes "--limit" ∷ []; command = size_of }
+    ∷ [])))
+
+-- the words fill one of the forms, and the command is that of what fills it
+pub record IsCommand (words : List Word) (asked : Command) : Type 0 where
+  pub form : Form
+  pub listed : Contains forms form
+  pub placed : List Word
+  pub given : List (Option Word)
+  pub filled : Fill words form placed given
+  pub command : form.command placed given ≡ Some asked

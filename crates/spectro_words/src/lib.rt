@@ -1,0 +1,11 @@
+//! The words of the command line, read as commands.
+#![tactic(auto)]
+
+mod command;
+mod forms;
+mod laws;
+mod limit;
+mod options;
+
+pub use command::{Command, command_of};
+pub use laws::{commands_are_filled_forms, words_are_at_most_one_command};
