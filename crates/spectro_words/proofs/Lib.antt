@@ -1,3 +1,4 @@
 pub mod OptionWords
 pub mod Verbs
 pub mod FilledForms
+pub mod WordExamples

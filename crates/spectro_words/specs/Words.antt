@@ -4,6 +4,7 @@ use Rattle.std.specs.Borrow.{Bor}
 use Rattle.std.specs.Option.{option_map}
 use Rattle.std.specs.declared.alloc.Global.{Global}
 
+-- a word, byte by byte
 abbrev pub Word : Type 0
 Word = List ℕ
 
