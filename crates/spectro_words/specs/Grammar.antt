@@ -6,27 +6,27 @@ use Rattle.spectro_words.specs.Limits.{limit_of}
 use Rattle.spectro_words.specs.Commands.{Command, eval, rewrite, price, size}
 use Rattle.spectro_words.specs.Forms.{Form, Fill}
 
--- FORMULA FILE [--weights W]
+-- eval: a formula, then a file; weights may be given
 abbrev pub eval_of : List Word → List (Option Word) → Option Command
 eval_of (formula ∷ file ∷ []) (weights ∷ []) = Some (eval formula file weights)
 eval_of placed given = None
 
--- FILE
+-- rewrite: a file
 abbrev pub rewrite_of : List Word → List (Option Word) → Option Command
 rewrite_of (file ∷ []) [] = Some (rewrite file)
 rewrite_of placed given = None
 
--- FORMULA [--weights W]
+-- price: a formula; weights may be given
 abbrev pub price_of : List Word → List (Option Word) → Option Command
 price_of (formula ∷ []) (weights ∷ []) = Some (price formula weights)
 price_of placed given = None
 
--- LEFT RIGHT [--limit N]
+-- size: the left file, then the right one; a limit may be given
 abbrev pub size_of : List Word → List (Option Word) → Option Command
 size_of (left ∷ right ∷ []) (limit ∷ []) = option_map (size left right) (limit_of limit)
 size_of placed given = None
 
--- the forms, one a line
+-- the forms: verb, number of places, options in their order, and the command of what fills these
 abbrev pub forms : List Form
 forms =
     record { verb = codes "eval"; places = 2; options = codes "--weights" ∷ []; command = eval_of }
