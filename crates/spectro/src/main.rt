@@ -1,4 +1,4 @@
-//! The program: words, the order of refusals, devices and exit codes.
+//! The program: the order of refusals, devices and exit codes.
 #![tactic(auto)]
 
 mod commands;
