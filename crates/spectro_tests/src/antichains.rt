@@ -1,7 +1,11 @@
 use spectro_antichain::Antichain;
 use spectro_energy::{Energy, Update};
-use std::alloc::AllocError;
+use std::alloc::{AllocError, Global};
 use std::process::Abort;
+
+const HIGH: [u32; 7] = [2, 2, 0, 0, 0, 0, 0];
+
+const LOW: [u32; 7] = [1, 9, 0, 0, 0, 0, 0];
 
 fn holds(rt: &impl Abort, antichain: &Antichain, wanted: &[[u32; 7]]) {
     assert_eq!(rt; antichain.len(), wanted.len());
@@ -10,53 +14,71 @@ fn holds(rt: &impl Abort, antichain: &Antichain, wanted: &[[u32; 7]]) {
     }
 }
 
+// Inserts an energy, which is added or not.
+fn inserts(
+    rt: &impl Abort,
+    antichain: &mut Antichain,
+    parts: [u32; 7],
+    is_new: bool,
+) -> Result<(), AllocError> {
+    assert_eq!(rt; antichain.insert(Energy { parts })?, is_new);
+    Ok(())
+}
+
 // worked by hand
-#[test]
-fn keeps_the_minimal_energies_in_order(rt: HostRuntime) -> Result<(), AllocError> {
-    let mut minimal = Antichain::new(rt.alloc());
-    for (parts, is_new) in [
-        ([2, 3, 0, 0, 1, 2, 0], true),
-        ([2, 2, 1, 1, 0, 0, 0], true),
-        ([2, 3, 1, 1, 1, 2, 0], false),
-    ] {
-        assert_eq!(rt; minimal.insert(Energy { parts })?, is_new);
-    }
+fn keeps_minimal(rt: &impl Abort, antichain: &mut Antichain) -> Result<(), AllocError> {
+    inserts(rt, antichain, [2, 3, 0, 0, 1, 2, 0], true)?;
+    inserts(rt, antichain, [2, 2, 1, 1, 0, 0, 0], true)?;
+    inserts(rt, antichain, [2, 3, 1, 1, 1, 2, 0], false)?;
     holds(
-        &rt,
-        &minimal,
+        rt,
+        antichain,
         &[[2, 2, 1, 1, 0, 0, 0], [2, 3, 0, 0, 1, 2, 0]],
     );
-    let below_both = Energy {
-        parts: [2, 2, 0, 0, 0, 0, 0],
-    };
-    assert!(rt; minimal.insert(below_both)?);
-    holds(&rt, &minimal, &[below_both.parts]);
+    inserts(rt, antichain, HIGH, true)?;
+    holds(rt, antichain, &[HIGH]);
+    Ok(())
+}
+
+#[test]
+fn keeps_the_minimal_energies_in_order(rt: HostRuntime) -> Result<(), AllocError> {
+    let mut antichain = Antichain::new(rt.alloc());
+    keeps_minimal(&rt, &mut antichain)
+}
+
+fn high_and_low(alloc: Global) -> Result<Antichain, AllocError> {
+    let mut both = Antichain::new(alloc);
+    both.insert(Energy { parts: HIGH })?;
+    both.insert(Energy { parts: LOW })?;
+    Ok(both)
+}
+
+// What comes of the two before a conjunction.
+fn pulled(alloc: Global) -> Result<Antichain, AllocError> {
+    let mut both = Antichain::new(alloc);
+    both.insert(Energy { parts: HIGH })?;
+    both.insert(Energy { parts: LOW })?;
+    both.pull(Update::Conjoin)
+}
+
+// What comes of the two by themselves.
+fn makes_minimal(rt: &impl Abort, alloc: Global, both: &Antichain) -> Result<(), AllocError> {
+    holds(rt, both, &[LOW, HIGH]);
+    holds(rt, &both.copy()?, &[LOW, HIGH]);
+    holds(rt, &both.meet(both)?, &[LOW, HIGH]);
+    holds(rt, &both.meet(&Antichain::new(alloc))?, &[]);
     Ok(())
 }
 
 #[test]
 fn makes_minimal_energies_of_each_member(rt: HostRuntime) -> Result<(), AllocError> {
-    let mut both = Antichain::new(rt.alloc());
-    let high = Energy {
-        parts: [2, 2, 0, 0, 0, 0, 0],
-    };
-    let low = Energy {
-        parts: [1, 9, 0, 0, 0, 0, 0],
-    };
-    both.insert(high)?;
-    both.insert(low)?;
-    let pulled = both.pull(Update::Conjoin)?;
+    let both = high_and_low(rt.alloc())?;
+    makes_minimal(&rt, rt.alloc(), &both)?;
+    let pulled = pulled(rt.alloc())?;
     holds(
         &rt,
         &pulled,
         &[[1, 10, 0, 0, 0, 0, 0], [2, 3, 0, 0, 0, 0, 0]],
     );
-
-    let wanted = [low.parts, high.parts];
-    holds(&rt, &both, &wanted);
-    let copy = both.copy()?;
-    holds(&rt, &copy, &wanted);
-    holds(&rt, &both.meet(&copy)?, &wanted);
-    holds(&rt, &both.meet(&Antichain::new(rt.alloc()))?, &[]);
     Ok(())
 }

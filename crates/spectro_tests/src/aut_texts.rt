@@ -2,6 +2,7 @@ use spectro_aut::{AutError, AutFault, AutKind, Feed, read, write};
 use spectro_io::{Failed, MemSink};
 use spectro_lts::{Draft, Lts};
 use std::alloc::{AllocError, Global};
+use std::process::Abort;
 use std::test::Fail;
 
 // Texts of systems, and what is written of these.
@@ -123,7 +124,7 @@ const AT_LIMITS: [(&str, &[(&[u8], usize)], Option<(u64, AutKind)>); 9] = [
 ];
 
 // How a text comes: whole, or in pieces of so many bytes.
-const WAYS: [Option<usize>; 4] = [None, Some(1), Some(7), Some(1000)];
+const WAYS: [Option<usize>; 3] = [None, Some(1), Some(7)];
 
 // The system of the text, which comes so.
 fn read_by(alloc: Global, text: &[u8], way: Option<usize>) -> Result<Lts, AutError> {
@@ -146,9 +147,10 @@ fn fault_of(outcome: Result<Lts, AutError>) -> Result<Option<AutFault>, AllocErr
     }
 }
 
-fn written(alloc: Global, lts: &Lts) -> Result<MemSink, AllocError> {
+fn written(alloc: Global, text: &[u8], way: Option<usize>) -> Result<MemSink, AutError> {
+    let lts = read_by(alloc, text, way)?;
     let mut out = MemSink::new(alloc, 200, 200, &[])?;
-    let _ = write(lts, &mut out);
+    let _ = write(&lts, &mut out);
     Ok(out)
 }
 
@@ -168,6 +170,16 @@ fn repeated(alloc: Global, parts: &[(&[u8], usize)]) -> Result<Vec<u8>, AllocErr
     Ok(text)
 }
 
+// The fault of the text of the parts, which comes so.
+fn fault_of_parts(
+    alloc: Global,
+    parts: &[(&[u8], usize)],
+    way: Option<usize>,
+) -> Result<Option<AutFault>, AllocError> {
+    let text = repeated(alloc, parts)?;
+    fault_of(read_by(alloc, &text, way))
+}
+
 // A text of so many transitions, each under a label of its own.
 fn text_with_labels(alloc: Global, labels: u32) -> Result<String, Fail> {
     let mut text = format!(in alloc; "des (0,{labels},1)\n")?;
@@ -177,27 +189,55 @@ fn text_with_labels(alloc: Global, labels: u32) -> Result<String, Fail> {
     Ok(text)
 }
 
+// A line of so many blanks, and its LF.
+fn blank_line(alloc: Global, blanks: usize) -> Result<Vec<u8>, AllocError> {
+    let mut line = vec![in alloc; b' '; blanks]?;
+    line.push(b'\n')?;
+    Ok(line)
+}
+
+// Feeds so many lines of so many blanks.
+fn feed_blanks(
+    alloc: Global,
+    feed: &mut Feed,
+    lines: u32,
+    blanks: usize,
+) -> Result<(), AllocError> {
+    let line = blank_line(alloc, blanks)?;
+    for _ in 0..lines {
+        feed.feed(&line)?;
+    }
+    Ok(())
+}
+
 // The system of as many bytes as a text may have, with more after them: a header, and 2,048 lines of blanks.
 fn read_full(alloc: Global, more: &[u8]) -> Result<Lts, AutError> {
-    let mut blanks = [b' '; 32_768];
-    blanks[32_767] = b'\n';
     let mut feed = Feed::new(alloc)?;
     feed.feed(b"des (0, 0, 1)\n")?;
-    for _ in 0..2047 {
-        feed.feed(&blanks)?;
-    }
-    feed.feed(&blanks[14..])?;
+    feed_blanks(alloc, &mut feed, 2047, 32_767)?;
+    feed_blanks(alloc, &mut feed, 1, 32_753)?;
     feed.feed(more)?;
     feed.finish()
+}
+
+// What is written of the system of the text, which comes so.
+fn is_written_as(
+    rt: &impl Abort,
+    alloc: Global,
+    text: &[u8],
+    way: Option<usize>,
+    expected: &str,
+) -> Result<(), Fail> {
+    let out = written(alloc, text, way)?;
+    assert_eq!(rt; out.written(), expected.as_bytes(), "{way:?}: {expected}");
+    Ok(())
 }
 
 #[test]
 fn reads_whole_texts_and_pieces_alike(rt: HostRuntime) -> Result<(), Fail> {
     for (text, expected) in TEXTS {
         for way in WAYS {
-            let lts = read_by(rt.alloc(), text, way)?;
-            let out = written(rt.alloc(), &lts)?;
-            assert_eq!(rt; out.written(), expected.as_bytes(), "{way:?}: {expected}");
+            is_written_as(&rt, rt.alloc(), text, way, expected)?;
         }
     }
     Ok(())
@@ -206,10 +246,8 @@ fn reads_whole_texts_and_pieces_alike(rt: HostRuntime) -> Result<(), Fail> {
 #[test]
 fn tells_the_first_faulty_line(rt: HostRuntime) -> Result<(), Fail> {
     for (text, line, kind) in FAULTY {
-        for way in WAYS {
-            let fault = fault_of(read_by(rt.alloc(), text, way))?;
-            assert_eq!(rt; fault, Some(AutFault { line, kind }), "{way:?}: {text:?}");
-        }
+        let fault = fault_of(read(rt.alloc(), text))?;
+        assert_eq!(rt; fault, Some(AutFault { line, kind }), "{text:?}");
     }
     Ok(())
 }
@@ -217,12 +255,16 @@ fn tells_the_first_faulty_line(rt: HostRuntime) -> Result<(), Fail> {
 #[test]
 fn keeps_the_limits_of_labels_and_lines(rt: HostRuntime) -> Result<(), Fail> {
     for (case, parts, expected) in AT_LIMITS {
-        let text = repeated(rt.alloc(), parts)?;
-        for way in WAYS {
-            let fault = fault_of(read_by(rt.alloc(), &text, way))?;
-            assert_eq!(rt; fault, told(expected), "{way:?}: {case}");
-        }
+        let fault = fault_of_parts(rt.alloc(), parts, None)?;
+        assert_eq!(rt; fault, told(expected), "{case}");
     }
+    Ok(())
+}
+
+#[test]
+fn keeps_the_limit_of_a_line_that_comes_in_pieces(rt: HostRuntime) -> Result<(), Fail> {
+    let fault = fault_of_parts(rt.alloc(), &[HEADER, (b" ", 32_769)], Some(1000))?;
+    assert_eq!(rt; fault, told(Some((2, AutKind::TooLong))));
     Ok(())
 }
 
@@ -258,11 +300,16 @@ fn says_the_line_and_the_fault(rt: HostRuntime) -> Result<(), Fail> {
     Ok(())
 }
 
+// What is written where the second call fails.
+fn is_cut(rt: &impl Abort, lts: &Lts, sink: &mut MemSink) {
+    assert_eq!(rt; write(lts, sink), Err(Failed));
+    assert_eq!(rt; sink.written(), b"des (".as_slice());
+}
+
 #[test]
 fn a_write_that_fails_leaves_a_proper_prefix(rt: HostRuntime) -> Result<(), Fail> {
     let lts = Draft::new(rt.alloc(), 12, 11)?.finish()?;
     let mut sink = MemSink::new(rt.alloc(), 100, 5, &[2])?;
-    assert_eq!(rt; write(&lts, &mut sink), Err(Failed));
-    assert_eq!(rt; sink.written(), b"des (".as_slice());
+    is_cut(&rt, &lts, &mut sink);
     Ok(())
 }

@@ -25,11 +25,16 @@ fn reads_go_on_after_a_planned_fault(rt: HostRuntime) -> Result<(), Fail> {
     leaves(&rt, rt.alloc(), &mut source, b"cde")
 }
 
-#[test]
-fn a_name_holds_the_text_that_was_put_last(rt: HostRuntime) -> Result<(), Fail> {
-    let mut shelf = MemShelf::new(rt.alloc(), 3, &[])?;
+fn shelf_put_twice(alloc: Global) -> Result<MemShelf, Fail> {
+    let mut shelf = MemShelf::new(alloc, 3, &[])?;
     shelf.put("name", b"old")?;
     shelf.put("name", b"new text")?;
+    Ok(shelf)
+}
+
+#[test]
+fn a_name_holds_the_text_that_was_put_last(rt: HostRuntime) -> Result<(), Fail> {
+    let mut shelf = shelf_put_twice(rt.alloc())?;
     assert!(rt; shelf.open("name") == Ok(true));
     leaves(&rt, rt.alloc(), &mut shelf, b"new text")
 }

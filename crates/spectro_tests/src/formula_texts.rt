@@ -1,6 +1,7 @@
 use spectro_hmltext::{ParseError, TextFault, TextKind, parse, print_sheet};
 use spectro_io::MemSink;
 use std::alloc::{AllocError, Global};
+use std::process::Abort;
 use std::test::Fail;
 
 // Texts of formulas, and the lines of their sheets.
@@ -78,6 +79,11 @@ fn fault_of(alloc: Global, text: &str) -> Result<Option<TextFault>, AllocError> 
     }
 }
 
+fn fault_of_parts(alloc: Global, parts: &[(&str, usize)]) -> Result<Option<TextFault>, AllocError> {
+    let text = repeated(alloc, parts)?;
+    fault_of(alloc, &text)
+}
+
 fn told(fault: Option<(u32, TextKind)>) -> Option<TextFault> {
     let (at, kind) = fault?;
     Some(TextFault { at, kind })
@@ -94,11 +100,16 @@ fn repeated(alloc: Global, parts: &[(&str, usize)]) -> Result<String, AllocError
     Ok(text)
 }
 
+fn has_lines(rt: &impl Abort, alloc: Global, text: &str, lines: &str) -> Result<(), Fail> {
+    let sheet = sheet_lines(alloc, text)?;
+    assert_eq!(rt; sheet.written(), lines.as_bytes(), "{text:?}");
+    Ok(())
+}
+
 #[test]
 fn numbers_inner_formulas_first(rt: HostRuntime) -> Result<(), Fail> {
     for (text, lines) in SHEETS {
-        let sheet = sheet_lines(rt.alloc(), text)?;
-        assert_eq!(rt; sheet.written(), lines.as_bytes(), "{text:?}");
+        has_lines(&rt, rt.alloc(), text, lines)?;
     }
     Ok(())
 }
@@ -115,8 +126,8 @@ fn tells_the_first_fault(rt: HostRuntime) -> Result<(), Fail> {
 #[test]
 fn keeps_the_limits(rt: HostRuntime) -> Result<(), Fail> {
     for (case, (parts, fault)) in AT_LIMITS.iter().enumerate() {
-        let text = repeated(rt.alloc(), parts)?;
-        assert_eq!(rt; fault_of(rt.alloc(), &text)?, told(*fault), "case {case}");
+        let found = fault_of_parts(rt.alloc(), parts)?;
+        assert_eq!(rt; found, told(*fault), "case {case}");
     }
     Ok(())
 }

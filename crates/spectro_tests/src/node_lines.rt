@@ -1,7 +1,8 @@
 use spectro_hml::Sheet;
 use spectro_hmltext::{NodeError, parse_node_line, print_sheet};
 use spectro_io::{Failed, MemSink};
-use std::alloc::Global;
+use std::alloc::{AllocError, Global};
+use std::process::Abort;
 use std::test::Fail;
 
 // Lines of nodes behind two others, and the lines of the sheet with them.
@@ -43,22 +44,32 @@ const FAULTY: [(&str, NodeError); 16] = [
     ("3 all +1 +0", NodeError::BadNode),
 ];
 
-// The lines of a sheet of two nodes, and the node of the line behind them.
-fn lines_with(alloc: Global, line: &str) -> Result<MemSink, NodeError> {
+fn two_nodes(alloc: Global) -> Result<Sheet, AllocError> {
     let mut sheet = Sheet::new(alloc);
     sheet.push_all(&[])?;
     sheet.push_all(&[])?;
+    Ok(sheet)
+}
+
+// The lines of a sheet of two nodes, and the node of the line behind them.
+fn lines_with(alloc: Global, line: &str) -> Result<MemSink, NodeError> {
+    let mut sheet = two_nodes(alloc)?;
     parse_node_line(alloc, &mut sheet, line)?;
     let mut lines = MemSink::new(alloc, 200, 200, &[])?;
     let _ = print_sheet(&sheet, &mut lines);
     Ok(lines)
 }
 
+fn has_lines(rt: &impl Abort, alloc: Global, line: &str, expected: &str) -> Result<(), Fail> {
+    let lines = lines_with(alloc, line)?;
+    assert_eq!(rt; lines.written(), expected.as_bytes(), "{line:?}");
+    Ok(())
+}
+
 #[test]
 fn reads_a_line_behind_two_nodes(rt: HostRuntime) -> Result<(), Fail> {
     for (line, expected) in READ {
-        let lines = lines_with(rt.alloc(), line)?;
-        assert_eq!(rt; lines.written(), expected.as_bytes(), "{line:?}");
+        has_lines(&rt, rt.alloc(), line, expected)?;
     }
     Ok(())
 }
@@ -72,13 +83,16 @@ fn tells_the_fault_that_is_tested_first(rt: HostRuntime) -> Result<(), Fail> {
     Ok(())
 }
 
+// What is written where the second call fails.
+fn is_cut(rt: &impl Abort, sheet: &Sheet, sink: &mut MemSink) {
+    assert_eq!(rt; print_sheet(sheet, sink), Err(Failed));
+    assert_eq!(rt; sink.written(), b"0 all".as_slice());
+}
+
 #[test]
 fn a_write_that_fails_leaves_a_proper_prefix(rt: HostRuntime) -> Result<(), Fail> {
-    let mut sheet = Sheet::new(rt.alloc());
-    sheet.push_all(&[])?;
-    sheet.push_all(&[])?;
+    let sheet = two_nodes(rt.alloc())?;
     let mut sink = MemSink::new(rt.alloc(), 100, 5, &[2])?;
-    assert_eq!(rt; print_sheet(&sheet, &mut sink), Err(Failed));
-    assert_eq!(rt; sink.written(), b"0 all".as_slice());
+    is_cut(&rt, &sheet, &mut sink);
     Ok(())
 }

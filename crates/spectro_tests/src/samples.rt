@@ -1,6 +1,7 @@
 ghost use Rattle.std.specs.Prelude.{◌≡◌, ◌<◌, ◌≤◌, IfOk};
 ghost use Rattle.spectro_spec.specs.System.{IsLabel};
 
+use spectro_hml::Clause;
 use spectro_lts::{Draft, Lts};
 use std::alloc::Global;
 use std::test::Fail;
@@ -38,6 +39,21 @@ pub(crate) fn add(
     Ok(())
 }
 
+// Adds the steps to the draft of so many states.
+pub(crate) fn add_all(
+    draft: &mut Draft,
+    states: u32,
+    steps: &[(u32, char, u32)],
+) -> Result<(), Fail>
+    requires { draft.old.states ≡ states }
+    ensures { draft.new.states ≡ states }
+{
+    for (from, letter, to) in steps {
+        add(draft, states, *from, *letter, *to)?;
+    }
+    Ok(())
+}
+
 // The draft of the steps.
 pub(crate) fn draft_of(
     alloc: Global,
@@ -50,9 +66,7 @@ pub(crate) fn draft_of(
     ensures { IfOk result (λ draft. draft.states ≡ states) }
 {
     let mut draft = Draft::new(alloc, states, initial)?;
-    for (from, letter, to) in steps {
-        add(&mut draft, states, *from, *letter, *to)?;
-    }
+    add_all(&mut draft, states, steps)?;
     Ok(draft)
 }
 
@@ -68,4 +82,11 @@ pub(crate) fn system(
     ensures { IfOk result (λ lts. lts.states ≡ states) }
 {
     Ok(draft_of(alloc, states, initial, steps)?.finish()?)
+}
+
+// A clause of a conjunction.
+pub(crate) fn clause(positive: bool, node: usize) -> Clause
+    ensures { result ≡ record { positive = positive; node = node } }
+{
+    Clause { positive, node }
 }

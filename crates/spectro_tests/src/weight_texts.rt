@@ -1,3 +1,4 @@
+use crate::weights::assert_weights;
 use spectro_weights::{WeightError, WeightFault, WeightKind, read_weights};
 use std::alloc::{AllocError, Global};
 use std::test::Fail;
@@ -41,9 +42,11 @@ fn lines_of_blanks(alloc: Global, blanks: usize) -> Result<Vec<u8>, AllocError> 
 fn reads_a_weight_for_each_label(rt: HostRuntime) -> Result<(), Fail> {
     let text = "\n \t\r\n007 \"tea\"\r\n\t255\t \"a\\\"\\\\é\" \n0 \"\"\r";
     let weights = read_weights(rt.alloc(), text.as_bytes())?;
-    for (label, weight) in [("tea", 7), ("a\"\\é", 255), ("", 0), ("coin", 1)] {
-        assert_eq!(rt; weights.of(label), weight, "{label}");
-    }
+    assert_weights(
+        &rt,
+        &weights,
+        &[("tea", 7), ("a\"\\é", 255), ("", 0), ("coin", 1)],
+    );
     Ok(())
 }
 

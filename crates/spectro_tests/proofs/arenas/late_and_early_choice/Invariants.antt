@@ -1,8 +1,8 @@
 use Rattle.std.proofs.Common.{◌≡◌}
 use Rattle.spectro_tests.proofs.arenas.late_and_early_choice.Given as goal
 
-abbrev pub invariant-loop-i : goal.invariant-loop-i
-invariant-loop-i l = l.draft.states ≡ l.states
+abbrev pub invariant-loop-first : goal.invariant-loop-first
+invariant-loop-first l = l.draft.states ≡ l.states
 
-abbrev pub invariant-loop-i-2 : goal.invariant-loop-i-2
-invariant-loop-i-2 l = l.draft.states ≡ l.states
+abbrev pub invariant-loop-from : goal.invariant-loop-from
+invariant-loop-from l = l.draft.states ≡ l.states
