@@ -46,14 +46,7 @@ fn keeps_the_minimal_energies_in_order(rt: HostRuntime) -> Result<(), AllocError
     keeps_minimal(&rt, &mut antichain)
 }
 
-fn high_and_low(alloc: Global) -> Result<Antichain, AllocError> {
-    let mut both = Antichain::new(alloc);
-    both.insert(Energy { parts: HIGH })?;
-    both.insert(Energy { parts: LOW })?;
-    Ok(both)
-}
-
-// What comes of the two before a conjunction.
+// What comes of the two energies before a conjunction.
 fn pulled(alloc: Global) -> Result<Antichain, AllocError> {
     let mut both = Antichain::new(alloc);
     both.insert(Energy { parts: HIGH })?;
@@ -61,19 +54,8 @@ fn pulled(alloc: Global) -> Result<Antichain, AllocError> {
     both.pull(Update::Conjoin)
 }
 
-// What comes of the two by themselves.
-fn makes_minimal(rt: &impl Abort, alloc: Global, both: &Antichain) -> Result<(), AllocError> {
-    holds(rt, both, &[LOW, HIGH]);
-    holds(rt, &both.copy()?, &[LOW, HIGH]);
-    holds(rt, &both.meet(both)?, &[LOW, HIGH]);
-    holds(rt, &both.meet(&Antichain::new(alloc))?, &[]);
-    Ok(())
-}
-
 #[test]
 fn makes_minimal_energies_of_each_member(rt: HostRuntime) -> Result<(), AllocError> {
-    let both = high_and_low(rt.alloc())?;
-    makes_minimal(&rt, rt.alloc(), &both)?;
     let pulled = pulled(rt.alloc())?;
     holds(
         &rt,
@@ -81,4 +63,26 @@ fn makes_minimal_energies_of_each_member(rt: HostRuntime) -> Result<(), AllocErr
         &[[1, 10, 0, 0, 0, 0, 0], [2, 3, 0, 0, 0, 0, 0]],
     );
     Ok(())
+}
+
+fn high_and_low(alloc: Global) -> Result<Antichain, AllocError> {
+    let mut both = Antichain::new(alloc);
+    both.insert(Energy { parts: HIGH })?;
+    both.insert(Energy { parts: LOW })?;
+    Ok(both)
+}
+
+fn meets(rt: &impl Abort, alloc: Global, both: &Antichain) -> Result<(), AllocError> {
+    holds(rt, both, &[LOW, HIGH]);
+    holds(rt, &both.meet(&both.copy()?)?, &[LOW, HIGH]);
+    holds(rt, &both.meet(&Antichain::new(alloc))?, &[]);
+    Ok(())
+}
+
+#[test]
+fn meets_a_copy_in_all_members_and_the_empty_one_in_none(
+    rt: HostRuntime,
+) -> Result<(), AllocError> {
+    let both = high_and_low(rt.alloc())?;
+    meets(&rt, rt.alloc(), &both)
 }

@@ -210,12 +210,17 @@ fn feed_blanks(
     Ok(())
 }
 
-// The system of as many bytes as a text may have, with more after them: a header, and 2,048 lines of blanks.
+// Feeds as many bytes as a text may have: a header, and 2,048 lines of blanks.
+fn feed_full(alloc: Global, feed: &mut Feed) -> Result<(), AllocError> {
+    feed.feed(b"des (0, 0, 1)\n")?;
+    feed_blanks(alloc, feed, 2047, 32_767)?;
+    feed_blanks(alloc, feed, 1, 32_753)
+}
+
+// The system of these, with more after them.
 fn read_full(alloc: Global, more: &[u8]) -> Result<Lts, AutError> {
     let mut feed = Feed::new(alloc)?;
-    feed.feed(b"des (0, 0, 1)\n")?;
-    feed_blanks(alloc, &mut feed, 2047, 32_767)?;
-    feed_blanks(alloc, &mut feed, 1, 32_753)?;
+    feed_full(alloc, &mut feed)?;
     feed.feed(more)?;
     feed.finish()
 }
