@@ -80,9 +80,7 @@ fn meets(rt: &impl Abort, alloc: Global, both: &Antichain) -> Result<(), AllocEr
 }
 
 #[test]
-fn meets_a_copy_in_all_members_and_the_empty_one_in_none(
-    rt: HostRuntime,
-) -> Result<(), AllocError> {
+fn meets_a_copy_whole(rt: HostRuntime) -> Result<(), AllocError> {
     let both = high_and_low(rt.alloc())?;
     meets(&rt, rt.alloc(), &both)
 }
