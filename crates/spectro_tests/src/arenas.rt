@@ -86,9 +86,8 @@ fn assert_size(rt: &impl Abort, arena: &Arena, pairs: u32, positions: u32) {
 
 // Pair `k` is of the state and the set.
 fn assert_pair(rt: &impl Abort, arena: &Arena, k: u32, state: u32, set: &[u32]) {
-    assert!(rt; k < arena.pair_count(), "pair {k}");
-    assert_eq!(rt; arena.state(k), state, "pair {k}");
-    assert_eq!(rt; arena.set(k), set, "pair {k}");
+    assert!(rt; k < arena.pair_count());
+    assert_eq!(rt; (arena.state(k), arena.set(k)), (state, set), "pair {k}");
     assert_eq!(rt; arena.find(state, set), Some(k), "pair {k}");
 }
 
@@ -100,7 +99,7 @@ fn assert_followers(
     k: u32,
     want: &[u32],
 ) -> Result<(), Fail> {
-    assert!(rt; k < arena.pair_count(), "pair {k}");
+    assert!(rt; k < arena.pair_count());
     let numbers = followers(alloc, arena, k)?;
     assert_eq!(rt; numbers.as_slice(), want, "pair {k}");
     Ok(())
@@ -108,7 +107,7 @@ fn assert_followers(
 
 // Pair `k` follows these.
 fn assert_preds(rt: &impl Abort, arena: &Arena, k: u32, want: &[u32]) {
-    assert!(rt; k < arena.pair_count(), "pair {k}");
+    assert!(rt; k < arena.pair_count());
     assert_eq!(rt; arena.preds(k), want, "pair {k}");
 }
 
@@ -122,8 +121,8 @@ fn assert_observation(
     pair: u32,
     weight: u8,
 ) {
-    assert!(rt; k < arena.pair_count(), "pair {k}");
-    assert!(rt; i < arena.observation_count(k), "pair {k}, place {i}");
+    assert!(rt; k < arena.pair_count());
+    assert!(rt; i < arena.observation_count(k));
     let want = Observation {
         label,
         pair,

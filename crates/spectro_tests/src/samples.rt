@@ -54,22 +54,6 @@ pub(crate) fn add_all(
     Ok(())
 }
 
-// The draft of the steps.
-pub(crate) fn draft_of(
-    alloc: Global,
-    states: u32,
-    initial: u32,
-    steps: &[(u32, char, u32)],
-) -> Result<Draft, Fail>
-    requires initial { initial < states }
-    requires few { states ≤ 131072 }
-    ensures { IfOk result (λ draft. draft.states ≡ states) }
-{
-    let mut draft = Draft::new(alloc, states, initial)?;
-    add_all(&mut draft, states, steps)?;
-    Ok(draft)
-}
-
 // The system of the steps.
 pub(crate) fn system(
     alloc: Global,
@@ -81,7 +65,9 @@ pub(crate) fn system(
     requires few { states ≤ 131072 }
     ensures { IfOk result (λ lts. lts.states ≡ states) }
 {
-    Ok(draft_of(alloc, states, initial, steps)?.finish()?)
+    let mut draft = Draft::new(alloc, states, initial)?;
+    add_all(&mut draft, states, steps)?;
+    Ok(draft.finish()?)
 }
 
 // A clause of a conjunction.

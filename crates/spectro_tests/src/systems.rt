@@ -1,8 +1,8 @@
 ghost use Rattle.std.specs.Prelude.{◌≤◌, ◌↔◌, length, IsTrue};
 ghost use Rattle.spectro_lts.specs.Labels.{labels_of};
 
-use crate::samples::{draft_of, system};
-use spectro_lts::{Draft, Lts, Step};
+use crate::samples::system;
+use spectro_lts::{Lts, Step};
 use std::alloc::Global;
 use std::process::Abort;
 use std::test::Fail;
@@ -43,8 +43,7 @@ fn assert_labels_of(rt: &impl Abort, lts: &Lts, s: u32, want: &[u32]) {
 
 // The steps from the state under the label lead there.
 fn assert_successors(rt: &impl Abort, lts: &Lts, s: u32, no: u32, want: &[u32]) {
-    assert!(rt; s < lts.states());
-    assert!(rt; no < lts.label_count());
+    assert!(rt; s < lts.states() && no < lts.label_count());
     assert_eq!(rt; lts.successors(s, no), want, "state {s}, label {no}");
 }
 
@@ -57,28 +56,17 @@ fn assert_post(
     no: u32,
     want: &[u32],
 ) -> Result<(), Fail> {
-    assert!(rt; p < lts.states());
-    assert!(rt; q < lts.states());
-    assert!(rt; no < lts.label_count());
+    assert!(rt; p < lts.states() && q < lts.states() && no < lts.label_count());
     let after = lts.post(&[p, q], no)?;
     assert_eq!(rt; after.as_slice(), want, "states {p} and {q}, label {no}");
     Ok(())
 }
 
-fn assert_draft(rt: &impl Abort, draft: &Draft) {
-    assert_eq!(rt; (draft.step_count(), draft.label_count()), (3, 2));
-    assert!(rt; draft.has_label("a"));
-    assert!(rt; !draft.has_label("c"));
-}
-
 #[test]
 fn numbers_labels_where_they_first_stand(rt: HostRuntime) -> Result<(), Fail> {
-    let draft = draft_of(rt.alloc(), 3, 1, &[(1, 'b', 2), (0, 'a', 1), (2, 'b', 2)])?;
-    assert_draft(&rt, &draft);
-    let lts = draft.finish()?;
+    let lts = system(rt.alloc(), 3, 1, &[(1, 'b', 2), (0, 'a', 1), (2, 'b', 2)])?;
     assert_steps(&rt, &lts, 3, 1, &[(1, 0, 2), (0, 1, 1), (2, 0, 2)]);
     assert_labels(&rt, &lts, &["b", "a"]);
-    assert_eq!(rt; lts.label_no("c"), None);
     Ok(())
 }
 
