@@ -159,6 +159,11 @@ fn told(fault: Option<(u64, AutKind)>) -> Option<AutFault> {
     Some(AutFault { line, kind })
 }
 
+// The case has the fault that is expected, or none.
+fn is_told(rt: &impl Abort, case: &str, fault: Option<AutFault>, expected: Option<(u64, AutKind)>) {
+    assert_eq!(rt; fault, told(expected), "{case}");
+}
+
 // The parts, each so often.
 fn repeated(alloc: Global, parts: &[(&[u8], usize)]) -> Result<Vec<u8>, AllocError> {
     let mut text = Vec::new(alloc);
@@ -187,6 +192,11 @@ fn text_with_labels(alloc: Global, labels: u32) -> Result<String, Fail> {
         writeln!(text, "(0,{label},0)")?;
     }
     Ok(text)
+}
+
+fn fault_of_labels(alloc: Global, labels: u32) -> Result<Option<AutFault>, Fail> {
+    let text = text_with_labels(alloc, labels)?;
+    Ok(fault_of(read(alloc, text.as_bytes()))?)
 }
 
 // A line of so many blanks, and its LF.
@@ -261,7 +271,7 @@ fn tells_the_first_faulty_line(rt: HostRuntime) -> Result<(), Fail> {
 fn keeps_the_limits_of_labels_and_lines(rt: HostRuntime) -> Result<(), Fail> {
     for (case, parts, expected) in AT_LIMITS {
         let fault = fault_of_parts(rt.alloc(), parts, None)?;
-        assert_eq!(rt; fault, told(expected), "{case}");
+        is_told(&rt, case, fault, expected);
     }
     Ok(())
 }
@@ -269,17 +279,19 @@ fn keeps_the_limits_of_labels_and_lines(rt: HostRuntime) -> Result<(), Fail> {
 #[test]
 fn keeps_the_limit_of_a_line_that_comes_in_pieces(rt: HostRuntime) -> Result<(), Fail> {
     let fault = fault_of_parts(rt.alloc(), &[HEADER, (b" ", 32_769)], Some(1000))?;
-    assert_eq!(rt; fault, told(Some((2, AutKind::TooLong))));
+    is_told(&rt, "in pieces", fault, Some((2, AutKind::TooLong)));
     Ok(())
 }
 
 #[test]
 fn reads_65_536_labels_and_no_more(rt: HostRuntime) -> Result<(), Fail> {
     let too_many = (65_538, AutKind::TooManyLabels);
-    for (labels, expected) in [(65_536, None), (65_537, Some(too_many))] {
-        let text = text_with_labels(rt.alloc(), labels)?;
-        let fault = fault_of(read(rt.alloc(), text.as_bytes()))?;
-        assert_eq!(rt; fault, told(expected), "{labels}");
+    for (case, labels, expected) in [
+        ("65,536 labels", 65_536, None),
+        ("65,537 labels", 65_537, Some(too_many)),
+    ] {
+        let fault = fault_of_labels(rt.alloc(), labels)?;
+        is_told(&rt, case, fault, expected);
     }
     Ok(())
 }
@@ -287,9 +299,12 @@ fn reads_65_536_labels_and_no_more(rt: HostRuntime) -> Result<(), Fail> {
 #[test]
 fn reads_67_108_864_bytes_and_no_more(rt: HostRuntime) -> Result<(), Fail> {
     let too_long = (2050, AutKind::TooLong);
-    for (more, expected) in [(b"".as_slice(), None), (b"\n", Some(too_long))] {
+    for (case, more, expected) in [
+        ("67,108,864 bytes", b"".as_slice(), None),
+        ("67,108,865 bytes", b"\n", Some(too_long)),
+    ] {
         let fault = fault_of(read_full(rt.alloc(), more))?;
-        assert_eq!(rt; fault, told(expected), "{more:?}");
+        is_told(&rt, case, fault, expected);
     }
     Ok(())
 }
@@ -306,15 +321,15 @@ fn says_the_line_and_the_fault(rt: HostRuntime) -> Result<(), Fail> {
 }
 
 // What is written where the second call fails.
-fn is_cut(rt: &impl Abort, lts: &Lts, sink: &mut MemSink) {
-    assert_eq!(rt; write(lts, sink), Err(Failed));
+fn is_cut(rt: &impl Abort, alloc: Global, lts: &Lts) -> Result<(), Fail> {
+    let mut sink = MemSink::new(alloc, 100, 5, &[2])?;
+    assert_eq!(rt; write(lts, &mut sink), Err(Failed));
     assert_eq!(rt; sink.written(), b"des (".as_slice());
+    Ok(())
 }
 
 #[test]
 fn a_write_that_fails_leaves_a_proper_prefix(rt: HostRuntime) -> Result<(), Fail> {
     let lts = Draft::new(rt.alloc(), 12, 11)?.finish()?;
-    let mut sink = MemSink::new(rt.alloc(), 100, 5, &[2])?;
-    is_cut(&rt, &lts, &mut sink);
-    Ok(())
+    is_cut(&rt, rt.alloc(), &lts)
 }

@@ -39,24 +39,36 @@ const FAULTY: [(&str, u32, TextKind); 16] = [
 ];
 
 // Texts at a limit, in parts that are repeated, with the place and the kind of the fault where there is one.
-const AT_LIMITS: [(&[(&str, usize)], Option<(u32, TextKind)>); 8] = [
-    (&[("<\"\">", 255), ("tt", 1)], None),
+const AT_LIMITS: [(&str, &[(&str, usize)], Option<(u32, TextKind)>); 8] = [
+    ("256 formulas deep", &[("<\"\">", 255), ("tt", 1)], None),
     (
+        "257 formulas deep",
         &[("<\"\">", 256), ("tt", 1)],
         Some((1024, TextKind::TooDeep)),
     ),
-    (&[("<\"", 1), ("x", 8190), ("é\">tt", 1)], None),
     (
+        "a label of 8,192 bytes",
+        &[("<\"", 1), ("x", 8190), ("é\">tt", 1)],
+        None,
+    ),
+    (
+        "a label of 8,193 bytes",
         &[("<\"", 1), ("x", 8191), ("é\">tt", 1)],
         Some((8193, TextKind::BadLabel)),
     ),
-    (&[("<\"", 1), ("x", 8191), ("\\\"\">tt", 1)], None),
     (
+        "a label of 8,192 bytes with an escape",
+        &[("<\"", 1), ("x", 8191), ("\\\"\">tt", 1)],
+        None,
+    ),
+    (
+        "a label of 8,193 bytes with an escape",
         &[("<\"", 1), ("x", 8192), ("\\\"\">tt", 1)],
         Some((8194, TextKind::BadLabel)),
     ),
-    (&[("tt", 1), (" ", 65_534)], None),
+    ("65,536 bytes", &[("tt", 1), (" ", 65_534)], None),
     (
+        "65,537 bytes",
         &[("tt", 1), (" ", 65_535)],
         Some((65_536, TextKind::TooLong)),
     ),
@@ -89,6 +101,16 @@ fn told(fault: Option<(u32, TextKind)>) -> Option<TextFault> {
     Some(TextFault { at, kind })
 }
 
+// The case has the fault that is expected, or none.
+fn is_told(
+    rt: &impl Abort,
+    case: &str,
+    fault: Option<TextFault>,
+    expected: Option<(u32, TextKind)>,
+) {
+    assert_eq!(rt; fault, told(expected), "{case:?}");
+}
+
 // The parts, each so often.
 fn repeated(alloc: Global, parts: &[(&str, usize)]) -> Result<String, AllocError> {
     let mut text = String::new(alloc);
@@ -118,16 +140,16 @@ fn numbers_inner_formulas_first(rt: HostRuntime) -> Result<(), Fail> {
 fn tells_the_first_fault(rt: HostRuntime) -> Result<(), Fail> {
     for (text, at, kind) in FAULTY {
         let fault = fault_of(rt.alloc(), text)?;
-        assert_eq!(rt; fault, Some(TextFault { at, kind }), "{text:?}");
+        is_told(&rt, text, fault, Some((at, kind)));
     }
     Ok(())
 }
 
 #[test]
 fn keeps_the_limits(rt: HostRuntime) -> Result<(), Fail> {
-    for (case, (parts, fault)) in AT_LIMITS.iter().enumerate() {
-        let found = fault_of_parts(rt.alloc(), parts)?;
-        assert_eq!(rt; found, told(*fault), "case {case}");
+    for (case, parts, expected) in AT_LIMITS {
+        let fault = fault_of_parts(rt.alloc(), parts)?;
+        is_told(&rt, case, fault, expected);
     }
     Ok(())
 }
