@@ -1,12 +1,1 @@
-pub mod Feeds
-pub mod Refusals
-pub mod Weighted
-pub mod Notation
-pub mod Commands
-pub mod Outcome
-pub mod Causes
-pub mod Stops
-pub mod Codes
-pub mod Pieces
-pub mod Messages
 pub mod Real

@@ -1,18 +1,9 @@
-//! The program: the order of refusals, devices and exit codes.
+//! The program: the words of the system, the real devices and exit codes.
 #![tactic(auto)]
 
-mod commands;
-mod cost;
 mod devices;
-mod message;
-mod output;
-mod pieces;
-mod run;
-mod status;
 #[cfg(test)]
 mod tests;
-mod texts;
-mod unique;
 
 use devices::{FileShelf, StderrSink, StdinSource, StdoutSink};
 use std::process::ExitCode;
@@ -38,7 +29,7 @@ fn main(rt: HostRuntime) -> ExitCode {
     let mut input = StdinSource::new(rt.stdin());
     let mut out = StdoutSink::new(rt.stdout());
     let mut err = StderrSink::new(rt.stderr());
-    let status = run::run(
+    let status = spectro_run::run(
         rt.alloc(),
         words.as_slice(),
         &mut shelf,

@@ -30,6 +30,8 @@ mod printed_formulas;
 #[cfg(test)]
 mod quoted_labels;
 #[cfg(test)]
+mod runs;
+#[cfg(test)]
 mod samples;
 #[cfg(test)]
 mod sheets;

@@ -1,0 +1,12 @@
+pub mod Costs
+pub mod Endings
+pub mod FilesHeld
+pub mod OneOutcome
+pub mod OneStage
+pub mod PutLines
+pub mod ReadFronts
+pub mod Sized
+pub mod Stopping
+pub mod StagesOfTexts
+pub mod Taken
+pub mod WrittenPieces

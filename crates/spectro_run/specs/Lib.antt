@@ -1,0 +1,14 @@
+pub mod Feeds
+pub mod Stages
+pub mod Held
+pub mod Refusals
+pub mod Weighted
+pub mod Notation
+pub mod Commands
+pub mod Outcome
+pub mod Stops
+pub mod Measures
+pub mod Reading
+pub mod Codes
+pub mod Pieces
+pub mod Messages

@@ -1,0 +1,106 @@
+ghost use Rattle.std.specs.Prelude.{◌≡◌};
+ghost use Rattle.std.specs.Option.{option_map};
+ghost use Rattle.spectro_io.specs.Bytes.{WritesWhole};
+ghost use Rattle.spectro_io.specs.Faults.{HasCause};
+ghost use Rattle.spectro_words.specs.Asked.{asked};
+ghost use Rattle.spectro_words.specs.Words.{named};
+ghost use Rattle.spectro_run.specs.Held.{file_of};
+ghost use Rattle.spectro_run.specs.Messages.{IsUntold, command_message, fault_text, text_name};
+
+use crate::pieces::{Piece, write_pieces};
+use crate::status::{BadText, Kind, Status, Which};
+use spectro_aut::AutKind;
+use spectro_io::{Failed, Sink, write_whole};
+use spectro_words::Command;
+
+// The name of this file of the command, if it has one.
+fn file_of<'a>(which: Which, command: Command<'a>) -> Option<&'a str>
+    ensures { named result ≡ file_of which (asked command.entry) }
+{
+    match (which, command) {
+        (Which::Formula | Which::Certificate, _) => None,
+        (Which::Left, Command::Eval { file, .. } | Command::Rewrite { file }) => Some(file),
+        (Which::Left, Command::Size { left, .. }) => Some(left),
+        (Which::Left, Command::Price { .. }) => None,
+        (Which::Right, Command::Size { right, .. }) => Some(right),
+        (Which::Right, Command::Eval { .. } | Command::Rewrite { .. } | Command::Price { .. }) =>
+            None,
+        (Which::Weights, Command::Eval { weights, .. } | Command::Price { weights, .. }) => weights,
+        (Which::Weights, Command::Rewrite { .. } | Command::Size { .. }) => None,
+    }
+}
+
+// How the text of the command is called.
+fn text_name<'a>(which: Which, command: Option<Command<'a>>) -> &'a str
+    ensures { result.now ≡ text_name which (option_map asked command.entry) }
+{
+    match (which, command) {
+        (Which::Formula, _) => "formula",
+        (_, None) => "",
+        (_, Some(command)) => file_of(which, command).unwrap_or(""),
+    }
+}
+
+fn write_fault<E: Sink>(name: &str, fault: BadText, err: &mut E) -> Result<(), Failed>
+    ensures bytes { WritesWhole (E.written err.old) (E.written err.new) result (fault_text name.now fault) }
+    ensures cause { HasCause (E.faults err.old) (E.faults err.new) result }
+{
+    match fault.kind {
+        Kind::Aut(AutKind::MissingLines { said, found }) => write_pieces(
+            &[
+                Piece::Text("spectro: "),
+                Piece::Text(name),
+                Piece::Text(":"),
+                Piece::Number(fault.at),
+                Piece::Text(": "),
+                Piece::Text(fault.kind.name()),
+                Piece::Text(" said "),
+                Piece::Number(u64::from(said)),
+                Piece::Text(" found "),
+                Piece::Number(u64::from(found)),
+                Piece::Text("\n"),
+            ],
+            err,
+        ),
+        _ => write_pieces(
+            &[
+                Piece::Text("spectro: "),
+                Piece::Text(name),
+                Piece::Text(":"),
+                Piece::Number(fault.at),
+                Piece::Text(": "),
+                Piece::Text(fault.kind.name()),
+                Piece::Text("\n"),
+            ],
+            err,
+        ),
+    }
+}
+
+/// Writes the message for a command that ended so, which is none for `Done` and `No`. It takes no memory.
+pub fn write_message<E: Sink>(
+    command: Option<Command<'_>>,
+    status: Status,
+    err: &mut E,
+) -> Result<(), Failed>
+    ensures bytes { WritesWhole (E.written err.old) (E.written err.new) result (command_message (option_map asked command.entry) status) }
+    ensures cause { HasCause (E.faults err.old) (E.faults err.new) result }
+    ensures untold { IsUntold status err.old err.new }
+{
+    match status {
+        Status::Done | Status::No => Ok(()),
+        Status::Usage => write_whole(err, b"spectro: words not understood\n"),
+        Status::BadText(fault) => write_fault(text_name(fault.which, command), fault, err),
+        Status::TooLarge { limit } => write_pieces(
+            &[
+                Piece::Text("spectro: more than "),
+                Piece::Number(u64::from(limit)),
+                Piece::Text(" positions\n"),
+            ],
+            err,
+        ),
+        Status::ReadFault => write_whole(err, b"spectro: cannot read\n"),
+        Status::WriteFault => write_whole(err, b"spectro: cannot write\n"),
+        Status::OutOfMemory => write_whole(err, b"spectro: out of memory\n"),
+    }
+}
