@@ -12,7 +12,7 @@ use Rattle.std.proofs.lemmas.List.{reverse-append, reverse-reverse, take-append-
 use Rattle.std.proofs.lemmas.List.Elements.{All-from_get_or}
 use Rattle.std.proofs.lemmas.List.Folds.{list_all-append, list_any-append, list_all_at, list_any_at, list_any_none}
 use Rattle.std.proofs.lemmas.List.Quantifiers.{position-Some}
-use Rattle.std.proofs.lemmas.List.Sums.{fails_before_first, position_or_len_is}
+use Rattle.std.proofs.lemmas.List.Sums.{position_or_len_is}
 use Rattle.std.proofs.lemmas.Option.{cond_some, same_Some, some_pair_parts}
 use Rattle.spectro_io.specs.Blanks.{is_blank, trimmed}
 use Rattle.spectro_io.specs.Fronts.{after}
@@ -87,18 +87,6 @@ first_split_parts sought text (Some place) is front back e =
 pub first_split_sound : (sought : ℕ) (text front back : List ℕ) → first_split sought text ≡ Some (front, back) → (text ≡ front ++ sought ∷ back) × Lacks front sought
 unfolding first_split
 first_split_sound sought text front back e = first_split_parts sought text (position (λ byte. nat_eq byte sought) text) refl front back e
-
-pub first_split-none : (sought : ℕ) (text : List ℕ) → first_split sought text ≡ None → Lacks text sought
-unfolding first_split
-first_split-none sought text none =
-    let p : ℕ → Bool = λ byte. nat_eq byte sought in
-    elim (cases_lt (position_or_len p text) (length text)) [
-      | inl inside ↦
-          let found : nat_lt (position_or_len p text) (length text) ≡ true = lt-ltb _ _ inside in
-          let some = rw found at none in
-          cc
-      | inr past ↦ list_any_none p text (All-from_get_or (λ byte. p byte ≡ false) text 0 (λ k below. fails_before_first p text k 0 (omega arith)))
-    ]
 
 pub first_split_complete : (sought : ℕ) (front back : List ℕ) → Lacks front sought → first_split sought (front ++ sought ∷ back) ≡ Some (front, back)
 unfolding first_split

@@ -1,109 +1,98 @@
--- Lines are judged one after another, as the grammar and the faults say.
-use Rattle.std.proofs.Common.{◌≡◌, ◌∙◌, ℕ, ◌+◌, List, [], ◌∷◌, ◌++◌, length, refl, sym, ap, subst, inl, inr, append-nil}
-use Rattle.std.specs.Prelude.{Result, Ok, Err, ◌⊎◌}
-use Rattle.spectro_io.specs.Lines.{first_line}
+-- A line after others gives one reading or has one fault, and the end of the text one system or one fault.
+use Rattle.std.proofs.Common.{◌≡◌, ◌∙◌, ℕ, ◌+◌, ◌≤◌, List, length, refl, sym, ap, subst, inl, inr, arith}
+use Rattle.std.specs.Prelude.{Result, Ok, Err, MatchResult, ◌⊎◌}
+use Rattle.std.specs.Str.{IsUtf8}
+use Rattle.std.proofs.lemmas.Bool.{cases_lt}
+use Rattle.std.proofs.lemmas.List.{length_push}
+use Rattle.spectro_io.specs.Blanks.{trimmed}
+use Rattle.spectro_lines.proofs.Settled.{IsSettled, settled_by}
 use Rattle.spectro_spec.specs.System.{System}
-use Rattle.spectro_aut.specs.Grammar.{Reading, steps, Before, behind, Follow}
-use Rattle.spectro_aut.specs.Faults.{IsFaulty, EndsEarly}
-use Rattle.spectro_aut.specs.Reading.{ended_reading}
-use Rattle.spectro_aut.specs.Feeding.{text_ended}
-use Rattle.spectro_aut.specs.declared.error.AutFault.{AutFault}
+use Rattle.spectro_aut.specs.Grammar.{Reading, start, steps, with_step, without_steps, Gives, header, step}
+use Rattle.spectro_aut.specs.Faults.{IsLineFault, EndsEarly, no_header, missing_lines}
+use Rattle.spectro_aut.specs.Reading.{line_read}
 use Rattle.spectro_aut.specs.declared.error.AutKind.{AutKind}
-use Rattle.spectro_aut.proofs.LineJudgements.{line_judged, line_judged_ok-sound, line_judged_err-sound, line_judged_ok-complete, line_judged_err-complete, IsKept, gives-IsKept, same_fault, ended_ok-sound, ended_err-sound, ended_ok-complete, ended_err-complete}
+use Rattle.spectro_aut.specs.declared.error.AutKind.TheVariants.{NoHeader, MissingLines}
+use Rattle.spectro_aut.proofs.LineLaws.{HasFewStates, read_gives, read_faults, read_gives-complete, read_faults-complete}
 
--- the fault of a line behind so many, or what the others are judged as
-abbrev pub or_fault : ℕ → Result Reading AutKind → (Reading → Result System AutFault) → Result System AutFault
-or_fault lines (Ok reading) others = others reading
-or_fault lines (Err kind) others = Err (record { line = lines + 1; kind = kind })
+-- there are no more steps than the header says, and no more states than it may say
+abbrev pub IsKept : Reading → Type 0
+IsKept start = Unit {0}
+IsKept (steps transitions system) = (length system.steps ≤ transitions) × (system.states ≤ 65536)
 
--- the system of the lines, or their first fault
-abbrev pub judged : Before → List (List ℕ) → Result System AutFault
-judged before [] = text_ended before.lines (ended_reading before.reading)
-judged before (line ∷ lines) = or_fault before.lines (line_judged before line) (λ reading. judged (behind before line reading) lines)
+HasFewStates-from_kept : (reading : Reading) → IsKept reading → HasFewStates reading
+HasFewStates-from_kept start kept = tt
+HasFewStates-from_kept (steps transitions system) kept = kept.1
 
-pub judged-ok : (before : Before) (line : List ℕ) (lines : List (List ℕ)) (next : Reading) → line_judged before line ≡ Ok next → judged before (line ∷ lines) ≡ judged (behind before line next) lines
-judged-ok before line lines next e = ap (λ given. or_fault before.lines given (λ reading. judged (behind before line reading) lines)) e
+pub gives-IsKept : (reading : Reading) (line : List ℕ) (next : Reading) → IsKept reading → Gives reading line next → IsKept next
+gives-IsKept reading line next kept (header initial transitions states none is_header within same) =
+    let none_taken : IsKept (steps transitions (without_steps initial states)) = (omega arith, within.few_states) in
+    subst IsKept (sym same) none_taken
+gives-IsKept reading line next kept (step transitions system added begun is_line short range few below same) =
+    let before : IsKept (steps transitions system) = subst IsKept begun kept in
+    let one_more : IsKept (steps transitions (with_step system added)) = (omega (arith, length_push system.steps added), before.1) in
+    subst IsKept (sym same) one_more
 
-pub judged-err : (before : Before) (line : List ℕ) (lines : List (List ℕ)) (kind : AutKind) → line_judged before line ≡ Err kind → judged before (line ∷ lines) ≡ Err (record { line = before.lines + 1; kind = kind })
-judged-err before line lines kind e = ap (λ given. or_fault before.lines given (λ reading. judged (behind before line reading) lines)) e
+-- ---- one line
+pub line_settled : (reading : Reading) (line : List ℕ) → IsKept reading → IsUtf8 line → IsSettled (Gives reading line) (IsLineFault reading line)
+line_settled reading line kept utf8 = record { answer = line_read reading (trimmed line); is_so = is_so (line_read reading (trimmed line)) refl; once = once }
+  where
+    few : HasFewStates reading
+    few = HasFewStates-from_kept reading kept
 
--- a result is one or the other
-pub cases_Result : {A E : Type 0} (given : Result A E) → ((x : A) × (given ≡ Ok x)) ⊎ ((told : E) × (given ≡ Err told))
-cases_Result (Ok x) = inl (x, refl)
-cases_Result (Err told) = inr (told, refl)
+    is_so : (found : Result Reading AutKind) → line_read reading (trimmed line) ≡ found → MatchResult found (Gives reading line) (IsLineFault reading line)
+    is_so (Ok next) read = read_gives reading line next few read
+    is_so (Err kind) read = read_faults reading line kind few utf8 read
 
--- the lines behind these have no fault, and give the system with as many steps as the header says
-abbrev pub GiveBehind : Before → List (List ℕ) → System → Type 0
-GiveBehind before lines system = (after : Before) × Follow before lines after × (after.reading ≡ steps (length system.steps) system)
+    once : (found : Result Reading AutKind) → MatchResult found (Gives reading line) (IsLineFault reading line) → found ≡ line_read reading (trimmed line)
+    once (Ok next) gives = sym (read_gives-complete reading line next few utf8 gives)
+    once (Err kind) fault = sym (read_faults-complete reading line kind few utf8 fault)
 
--- the first fault of the lines behind these
-pub data FailBehind (before : Before) (lines : List (List ℕ)) (fault : AutFault) : Type 0 where
-  fail_at_line : (front : List (List ℕ)) (line : List ℕ) (rest : List (List ℕ)) (middle : Before) → lines ≡ front ++ line ∷ rest → Follow before front middle
-      → IsFaulty middle line fault.kind → fault.line ≡ middle.lines + 1 → FailBehind before lines fault
-  fail_at_end : (after : Before) → Follow before lines after → EndsEarly after.reading fault.kind → fault.line ≡ after.lines + 1 → FailBehind before lines fault
+-- ---- the end of the text
+abbrev pub Ends : Reading → System → Type 0
+Ends reading system = reading ≡ steps (length system.steps) system
 
--- what is judged is so
-give_first : (before : Before) (line : List ℕ) (lines : List (List ℕ)) (next : Reading) (system : System) → IsKept before.reading → line_judged before line ≡ Ok next → GiveBehind (behind before line next) lines system
-    → GiveBehind before (line ∷ lines) system
-give_first before line lines next system kept e others =
-    let given = line_judged_ok-sound before line next kept e in
-    (others.0, (next, given.0, given.1, given.2, others.1), others.2)
+ends-once : (reading : Reading) (one other : System) → Ends reading one → Ends reading other → one ≡ other
+ends-once reading one other first second = let same : steps (length one.steps) one ≡ steps (length other.steps) other = sym first ∙ second in cc
 
-fail_first : (before : Before) (line : List ℕ) (lines : List (List ℕ)) (next : Reading) (fault : AutFault) → IsKept before.reading → line_judged before line ≡ Ok next → FailBehind (behind before line next) lines fault
-    → FailBehind before (line ∷ lines) fault
-fail_first before line lines next fault kept e (fail_at_line front faulty rest middle whole follow is_faulty at) =
-    let given = line_judged_ok-sound before line next kept e in
-    fail_at_line (line ∷ front) faulty rest middle (ap (λ lines. line ∷ lines) whole) (next, given.0, given.1, given.2, follow) is_faulty at
-fail_first before line lines next fault kept e (fail_at_end after follow early at) =
-    let given = line_judged_ok-sound before line next kept e in
-    fail_at_end after (next, given.0, given.1, given.2, follow) early at
+early-once : (reading : Reading) (one other : AutKind) → EndsEarly reading one → EndsEarly reading other → one ≡ other
+early-once reading one other (no_header none is) (no_header none_too same) = is ∙ sym same
+early-once reading one other (no_header none is) (missing_lines transitions system read few same) = let both = sym none ∙ read in cc
+early-once reading one other (missing_lines transitions system read few is) (no_header none same) = let both = sym none ∙ read in cc
+early-once reading one other (missing_lines transitions system read few is) (missing_lines promised found read_too few_too same) =
+    let both : steps transitions system ≡ steps promised found = sym read ∙ read_too in
+    let count : transitions ≡ promised = cc in
+    let steps_too : system ≡ found = cc in
+    is ∙ ap (λ said. MissingLines said (length system.steps)) count ∙ ap (λ (system : System). MissingLines promised (length system.steps)) steps_too ∙ sym same
 
-judged-IsKept : (before : Before) (line : List ℕ) (next : Reading) → IsKept before.reading → line_judged before line ≡ Ok next → IsKept next
-judged-IsKept before line next kept e = gives-IsKept before.reading (first_line line) next (line_judged_ok-sound before line next kept e).2 kept
+ends-no_early : (reading : Reading) (system : System) (kind : AutKind) → Ends reading system → EndsEarly reading kind → ⊥
+ends-no_early reading system kind ends (no_header none is) = let both = sym none ∙ ends in cc
+ends-no_early reading system kind ends (missing_lines transitions found read few is) =
+    let both : steps transitions found ≡ steps (length system.steps) system = sym read ∙ ends in
+    let count : transitions ≡ length system.steps = cc in
+    let same : found ≡ system = cc in
+    omega (arith, few, ap (λ (system : System). length system.steps) same)
 
-pub judged_ok-sound : (lines : List (List ℕ)) (before : Before) (system : System) → IsKept before.reading → judged before lines ≡ Ok system → GiveBehind before lines system
-judged_ok-sound [] before system kept e = (before, refl, ended_ok-sound before.lines before.reading system kept e)
-judged_ok-sound (line ∷ lines) before system kept e =
-    elim (cases_Result (line_judged before line)) [
-      | inl ok ↦
-          let others = judged_ok-sound lines (behind before line ok.0) system (judged-IsKept before line ok.0 kept ok.1) (sym (judged-ok before line lines ok.0 ok.1) ∙ e) in
-          give_first before line lines ok.0 system kept ok.1 others
-      | inr err ↦ let told = judged-err before line lines err.0 err.1 in cc
+ends-cases : (reading : Reading) → IsKept reading → ((system : System) × Ends reading system) ⊎ ((kind : AutKind) × EndsEarly reading kind)
+ends-cases start kept = inr (NoHeader, no_header refl refl)
+ends-cases (steps transitions system) kept =
+    elim (cases_lt (length system.steps) transitions) [
+      | inl few ↦ inr (MissingLines transitions (length system.steps), missing_lines transitions system refl few refl)
+      | inr all ↦ let same : transitions ≡ length system.steps = let most = kept.0 in omega arith in inl (system, ap (λ count. steps count system) same)
     ]
 
-pub judged_err-sound : (lines : List (List ℕ)) (before : Before) (fault : AutFault) → IsKept before.reading → judged before lines ≡ Err fault → FailBehind before lines fault
-judged_err-sound [] before fault kept e = let ended = ended_err-sound before.lines before.reading fault e in fail_at_end before refl ended.0 ended.1
-judged_err-sound (line ∷ lines) before fault kept e =
-    elim (cases_Result (line_judged before line)) [
-      | inl ok ↦
-          let others = judged_err-sound lines (behind before line ok.0) fault (judged-IsKept before line ok.0 kept ok.1) (sym (judged-ok before line lines ok.0 ok.1) ∙ e) in
-          fail_first before line lines ok.0 fault kept ok.1 others
-      | inr err ↦
-          let judgement = judged-err before line lines err.0 err.1 in
-          let told : fault ≡ record { line = before.lines + 1; kind = err.0 } = cc in
-          let faulty = line_judged_err-sound before line err.0 kept err.1 in
-          fail_at_line [] line lines before refl refl (subst (IsFaulty before line) (sym (ap (λ fault. fault.kind) told)) faulty) (ap (λ fault. fault.line) told)
-    ]
+-- the reason why the text may not end stands at the line behind the last
+abbrev pub IsEndFault : Reading → ℕ → ℕ × AutKind → Type 0
+IsEndFault reading lines fault = EndsEarly reading fault.1 × (fault.0 ≡ lines + 1)
 
--- what is so is judged
-Follow-IsKept : (lines : List (List ℕ)) (before after : Before) → IsKept before.reading → Follow before lines after → IsKept after.reading
-Follow-IsKept [] before after kept follow = subst (λ before. IsKept before.reading) (sym follow) kept
-Follow-IsKept (line ∷ lines) before after kept follow = Follow-IsKept lines (behind before line follow.0) after (gives-IsKept before.reading (first_line line) follow.0 follow.3 kept) follow.4
+end_fault-once : (reading : Reading) (lines : ℕ) (one other : ℕ × AutKind) → IsEndFault reading lines one → IsEndFault reading lines other → one ≡ other
+end_fault-once reading lines one other first second =
+    ap (λ number. (number, one.1)) (first.1 ∙ sym second.1) ∙ ap (λ kind. (other.0, kind)) (early-once reading one.1 other.1 first.0 second.0)
 
-judged-append : (front lines : List (List ℕ)) (before middle : Before) → IsKept before.reading → Follow before front middle → judged before (front ++ lines) ≡ judged middle lines
-judged-append [] lines before middle kept follow = ap (λ before. judged before lines) (sym follow)
-judged-append (line ∷ front) lines before middle kept follow =
-    let first = judged-ok before line (front ++ lines) follow.0 (line_judged_ok-complete before line follow.0 kept follow.1 follow.2 follow.3) in
-    first ∙ judged-append front lines (behind before line follow.0) middle (gives-IsKept before.reading (first_line line) follow.0 follow.3 kept) follow.4
+end-cases : (reading : Reading) (lines : ℕ) → IsKept reading
+    → ((system : System) × Ends reading system) ⊎ ((fault : ℕ × AutKind) × IsEndFault reading lines fault)
+end-cases reading lines kept = elim (ends-cases reading kept) [ inl ends ↦ inl ends | inr early ↦ inr ((lines + 1, early.0), (early.1, refl)) ]
 
-judged-all : (lines : List (List ℕ)) (before after : Before) → IsKept before.reading → Follow before lines after → judged before lines ≡ text_ended after.lines (ended_reading after.reading)
-judged-all lines before after kept follow = ap (judged before) (sym (append-nil lines)) ∙ judged-append lines [] before after kept follow
-
-pub judged_ok-complete : (lines : List (List ℕ)) (before : Before) (system : System) → IsKept before.reading → GiveBehind before lines system → judged before lines ≡ Ok system
-judged_ok-complete lines before system kept give = judged-all lines before give.0 kept give.1 ∙ ended_ok-complete give.0.lines give.0.reading system give.2
-
-pub judged_err-complete : (lines : List (List ℕ)) (before : Before) (fault : AutFault) → IsKept before.reading → FailBehind before lines fault → judged before lines ≡ Err fault
-judged_err-complete lines before fault kept (fail_at_line front line rest middle whole follow is_faulty at) =
-    let faulty = line_judged_err-complete middle line fault.kind (Follow-IsKept front before middle kept follow) is_faulty in
-    ap (judged before) whole ∙ judged-append front (line ∷ rest) before middle kept follow ∙ judged-err middle line rest fault.kind faulty ∙ ap Err (same_fault (middle.lines + 1) fault.kind fault at refl)
-judged_err-complete lines before fault kept (fail_at_end after follow early at) = judged-all lines before after kept follow ∙ ended_err-complete after.lines after.reading fault early at
+pub end_settled : (reading : Reading) (lines : ℕ) → IsKept reading → IsSettled (Ends reading) (IsEndFault reading lines)
+end_settled reading lines kept =
+    settled_by _ _ (end-cases reading lines kept) (ends-once reading) (end_fault-once reading lines)
+    (λ system fault ends early. ends-no_early reading system fault.1 ends early.0)

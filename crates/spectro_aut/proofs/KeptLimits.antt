@@ -11,7 +11,9 @@ use Rattle.spectro_io.specs.Lines.{first_line, lines_of, without_cr}
 use Rattle.spectro_io.specs.Blanks.{trimmed}
 use Rattle.spectro_spec.specs.System.{System, Step, IsLabel}
 use Rattle.spectro_spec.proofs.Members.{Contains-cases, Contains-none}
-use Rattle.spectro_aut.specs.Grammar.{Before, Follow, Gives, IsText, Reading, behind, start, steps, skipped, header, step, nothing_before}
+use Rattle.spectro_lines.specs.Texts.{Before, nothing_before, behind, LeadsTo, skipped, given, Follow}
+use Rattle.spectro_aut.specs.Grammar.{Gives, Reading, start, steps, header, step}
+use Rattle.spectro_aut.specs.Texts.{aut_form, IsText}
 use Rattle.spectro_aut.specs.RoundTrip.{KeepsLimits}
 use Rattle.spectro_aut.proofs.Steps.{few_labels, label-one_line, trimmed-one_line}
 use Rattle.spectro_aut.proofs.TransitionLaws.{field_utf8, label_utf8}
@@ -23,10 +25,11 @@ before_first-one_line (byte ∷ bytes) within = by (byte == 10) refl (before_fir
   where
     by : (ends : Bool) → (byte == 10) ≡ ends → (Contains (before_first (λ byte. byte == 10) bytes) 10 → ⊥) → ⊥
     by true e others = Contains-none 10 (rw (take_while-cons (λ byte. not (byte == 10)) byte bytes, e) at within)
-    by false e others = elim (Contains-cases byte (before_first (λ byte. byte == 10) bytes) 10 (rw (take_while-cons (λ byte. not (byte == 10)) byte bytes, e) at within)) [
-      | inl same ↦ eqb-false byte 10 e same
-      | inr later ↦ others later
-    ]
+    by false e others =
+        elim (Contains-cases byte (before_first (λ byte. byte == 10) bytes) 10 (rw (take_while-cons (λ byte. not (byte == 10)) byte bytes, e) at within)) [
+          | inl same ↦ eqb-false byte 10 e same
+          | inr later ↦ others later
+        ]
 
 first_line-one_line : (line : List ℕ) → Contains (first_line line) 10 → ⊥
 first_line-one_line line = by (before_first (λ byte. byte == 10) line) (before_first-one_line line)
@@ -48,7 +51,6 @@ Keeps (steps transitions system) = (transitions ≤ 1000000) × (length system.s
 
 -- a line gives one step more, or none
 keeps-given : (reading : Reading) (line : List ℕ) (next : Reading) → IsUtf8 line → (Contains line 10 → ⊥) → Gives reading line next → Keeps reading → Keeps next
-keeps-given reading line next utf8 one_line (skipped none same) kept = subst Keeps (sym same) kept
 keeps-given reading line next utf8 one_line (header initial transitions states begins is_header within is) kept =
     subst Keeps (sym is) (
       within.few_transitions,
@@ -62,35 +64,38 @@ keeps-given reading line next utf8 one_line (header initial transitions states b
         are_utf8 = All-nil _;
       },
     )
-keeps-given reading line next utf8 one_line (step transitions system given follows is_step short in_range few room is) kept =
+keeps-given reading line next utf8 one_line (step transitions system added follows is_step short in_range few room is) kept =
     let (most, within, old) = subst Keeps follows kept in
-    let label : IsLabel given.label = record { short = short; one_line = label-one_line (trimmed line) given is_step (trimmed-one_line line one_line) } in
-    let label_is_utf8 : IsUtf8 given.label = label_utf8 is_step.0 given.label is_step.2 (field_utf8 line given.source is_step.0 given.target utf8 is_step.1) in
-    let more : length (system.steps ++ given ∷ []) ≡ length system.steps + 1 = length-append system.steps (given ∷ []) in
+    let label : IsLabel added.label = record { short = short; one_line = label-one_line (trimmed line) added is_step (trimmed-one_line line one_line) } in
+    let label_is_utf8 : IsUtf8 added.label = label_utf8 is_step.0 added.label is_step.2 (field_utf8 line added.source is_step.0 added.target utf8 is_step.1) in
+    let more : length (system.steps ++ added ∷ []) ≡ length system.steps + 1 = length-append system.steps (added ∷ []) in
     subst Keeps (sym is) (
       most,
       omega (arith, more),
       record {
         whole = record {
           initial = old.whole.initial;
-          sources = All-push (λ (s : Step). s.source < system.states) system.steps given old.whole.sources in_range.0;
-          targets = All-push (λ (s : Step). s.target < system.states) system.steps given old.whole.targets in_range.1;
+          sources = All-push (λ (s : Step). s.source < system.states) system.steps added old.whole.sources in_range.0;
+          targets = All-push (λ (s : Step). s.target < system.states) system.steps added old.whole.targets in_range.1;
         };
         few_states = old.few_states;
         few_steps = omega (arith, more);
-        few_labels = few_labels system given old.few_labels few;
-        are_labels = All-push (λ (s : Step). IsLabel s.label) system.steps given old.are_labels label;
-        are_utf8 = All-push (λ (s : Step). IsUtf8 s.label) system.steps given old.are_utf8 label_is_utf8;
+        few_labels = few_labels system added old.few_labels few;
+        are_labels = All-push (λ (s : Step). IsLabel s.label) system.steps added old.are_labels label;
+        are_utf8 = All-push (λ (s : Step). IsUtf8 s.label) system.steps added old.are_utf8 label_is_utf8;
       },
     )
 
-keeps-lines : (before : Before) (lines : List (List ℕ)) (after : Before) → Follow before lines after → Keeps before.reading → Keeps after.reading
-keeps-lines before [] after follow kept = subst (λ (b : Before). Keeps b.reading) (sym follow) kept
-keeps-lines before (line ∷ lines) after follow kept =
-    let (reading, fit, utf8, gives, rest) = follow in
-    keeps-lines (behind before line reading) lines after rest (keeps-given before.reading (first_line line) reading utf8 (first_line-one_line line) gives kept)
+keeps-lines : (before : Before Reading) (lines : List (List ℕ)) (after : Before Reading) → Follow aut_form before lines after → Keeps before.state
+    → Keeps after.state
+keeps-lines before [] after follow kept = subst (λ (before : Before Reading). Keeps before.state) (sym follow) kept
+keeps-lines before (line ∷ lines) after follow kept = keeps-lines (behind before line follow.0) lines after follow.2 (keeps-led follow.1.leads)
+  where
+    keeps-led : LeadsTo aut_form before.state (before.lines + 1) (first_line line) follow.0 → Keeps follow.0
+    keeps-led (skipped blank same) = subst Keeps (sym same) kept
+    keeps-led (given some gives) = keeps-given before.state (first_line line) follow.0 follow.1.text (first_line-one_line line) gives kept
 
 pub text_keeps_limits : (text : List ℕ) (system : System) → IsText text system → KeepsLimits system
 text_keeps_limits text system is =
-    let kept = subst Keeps is.2 (keeps-lines nothing_before (lines_of text) is.0 is.1 tt) in
+    let kept = subst Keeps is.ends (keeps-lines (nothing_before aut_form) (lines_of text) is.after is.follow tt) in
     kept.2

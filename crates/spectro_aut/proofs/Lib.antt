@@ -7,13 +7,8 @@ pub mod TransitionLaws
 pub mod StepLaws
 pub mod LineLaws
 pub mod Steps
-pub mod HeldLines
-pub mod LineJudgements
 pub mod Judgements
-pub mod Feedings
-pub mod Pieces
 pub mod Texts
-pub mod LongTexts
 pub mod Writing
 pub mod WrittenNumbers
 pub mod WrittenLines

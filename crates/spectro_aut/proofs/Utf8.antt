@@ -1,6 +1,6 @@
 -- What `from_utf8` answers, as a test.
-use Rattle.std.proofs.Common.{◌≡◌, Bool, true, false, ℕ, List, Bor, refl, sym}
-use Rattle.std.specs.Prelude.{Result, Ok, Err, MatchResult, is_ok}
+use Rattle.std.proofs.Common.{◌≡◌, Bool, true, false, ℕ, List, Bor, refl}
+use Rattle.std.specs.Prelude.{Result, Ok, Err, MatchResult}
 use Rattle.std.specs.Option.{option_map}
 use Rattle.std.specs.Result.{result_ok}
 use Rattle.std.specs.Str.{IsUtf8, is_utf8}
@@ -13,11 +13,6 @@ not_utf8 bytes none = by (is_utf8 bytes) refl
     by : (b : Bool) → is_utf8 bytes ≡ b → b ≡ false
     by true e = absurd (none (IsUtf8-from_is_utf8 bytes e))
     by false e = refl
-
-pub is_ok-is_utf8 : {E : Type 0} (bytes : List ℕ) (result : Result (Bor (List ℕ)) E) (Q : E → Type 0)
-    → MatchResult result (λ text. (text.now ≡ bytes) × IsUtf8 bytes) (λ e. ¬ (IsUtf8 bytes) × Q e) → is_ok result ≡ is_utf8 bytes
-is_ok-is_utf8 bytes (Ok text) Q cases = sym (is_utf8-from_IsUtf8 bytes cases.1)
-is_ok-is_utf8 bytes (Err e) Q cases = sym (not_utf8 bytes cases.0)
 
 pub ok-utf8_of : {E : Type 0} (bytes : List ℕ) (result : Result (Bor (List ℕ)) E) (Q : E → Type 0)
     → MatchResult result (λ text. (text.now ≡ bytes) × IsUtf8 bytes) (λ e. ¬ (IsUtf8 bytes) × Q e) → option_map (λ text. text.now) (result_ok result) ≡ utf8_of bytes

@@ -2,38 +2,34 @@
 use Rattle.std.proofs.Common.{◌≡◌, ◌∙◌, ℕ, ◌-◌, ◌^◌, ◌<◌, ◌≤◌, true, false, List, [], ◌∷◌, ◌++◌, get_or, length, refl, sym, ap, subst, arith, append_assoc, append-nil, length-append}
 use Rattle.std.specs.Prelude.{codes, nat_eq}
 use Rattle.std.specs.Fmt.{decimal}
-use Rattle.std.specs.List.{list_all, list_any}
+use Rattle.std.specs.List.{list_all}
 use Rattle.std.specs.Str.{IsUtf8}
-use Rattle.std.proofs.lemmas.Bool.{and_from, or_from, or_parts}
+use Rattle.std.proofs.lemmas.Bool.{and_from, and_parts, both_ways, or_from}
 use Rattle.std.proofs.lemmas.List.{get_or_at}
 use Rattle.std.proofs.lemmas.List.Folds.{list_all-append, list_any-append}
 use Rattle.std.proofs.lemmas.Str.{IsUtf8-append, IsUtf8-from_ascii}
-use Rattle.spectro_io.specs.Blanks.{is_blank, trimmed}
+use Rattle.spectro_io.specs.Blanks.{is_blank, trimmed, AreBlanks}
 use Rattle.spectro_io.specs.Lines.{without_cr}
 use Rattle.spectro_io.proofs.Blanks.{trimmed_core, trimmed-quoted}
 use Rattle.spectro_spec.specs.System.{System, Step, IsLabel}
 use Rattle.spectro_aut.specs.Fields.{IsLabelField}
 use Rattle.spectro_aut.specs.Grammar.{IsHeader, IsTransition, IsStepLine}
 use Rattle.spectro_aut.specs.Written.{header_text, step_text}
-use Rattle.spectro_aut.proofs.FieldLaws.{Lacks, Lacks-from_no_Contains, is_ascii_byte, IsAscii-from_list_all}
-use Rattle.spectro_aut.proofs.HeldLines.{IsUnbroken}
+use Rattle.spectro_aut.proofs.FieldLaws.{Lacks, Lacks-Contains, Lacks-from_no_Contains, is_ascii_byte, IsAscii-from_list_all}
+use Rattle.spectro_lines.proofs.HeldLines.{IsUnbroken}
+use Rattle.spectro_lines.proofs.HeldLines as held
 use Rattle.spectro_aut.proofs.WrittenNumbers.{decimal_field, spaced_field, Lacks-decimal, list_all-decimal, length-decimal}
 
 -- a line that is read as it stands
 pub record IsPlain (line : List ℕ) : Type 0 where
   pub unbroken : IsUnbroken line
   pub utf8 : IsUtf8 line
+  pub some : ¬ AreBlanks line
   pub bare : trimmed line ≡ line
   pub ended : without_cr line ≡ line
   pub short : length line ≤ 32768
 
 -- ---- no byte of a line ends it
-IsUnbroken-from_Lacks : (text : List ℕ) → Lacks text 10 → IsUnbroken text
-IsUnbroken-from_Lacks [] lacks = tt
-IsUnbroken-from_Lacks (byte ∷ text) lacks =
-    let parts = or_parts (nat_eq byte 10) (list_any (λ other. nat_eq other 10) text) lacks in
-    (parts.0, IsUnbroken-from_Lacks text parts.1)
-
 Lacks-append : (front rest : List ℕ) (byte : ℕ) → Lacks front byte → Lacks rest byte → Lacks (front ++ rest) byte
 Lacks-append front rest byte first second = list_any-append (λ other. nat_eq other byte) front rest ∙ or_from _ _ first second
 
@@ -57,8 +53,9 @@ trimmed-closed first others front closes opens =
 
 closed : (first : ℕ) (others front : List ℕ) → first ∷ others ≡ front ++ 41 ∷ [] → is_blank first ≡ false → Lacks (first ∷ others) 10 → IsUtf8 (first ∷ others) → length (first ∷ others) ≤ 32768 → IsPlain (first ∷ others)
 closed first others front closes opens lacks utf8 short = record {
-  unbroken = IsUnbroken-from_Lacks (first ∷ others) lacks;
+  unbroken = held.unbroken (first ∷ others) (Lacks-Contains (first ∷ others) 10 lacks);
   utf8 = utf8;
+  some = λ blank. both_ways (is_blank first) opens (and_parts (is_blank first) (list_all is_blank others) blank).0;
   bare = trimmed-closed first others front closes opens;
   ended = subst (λ line. without_cr line ≡ line) (sym closes) (without_cr-closed front);
   short = short;

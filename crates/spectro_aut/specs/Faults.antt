@@ -1,16 +1,11 @@
--- The first faulty line of a text, and its fault. Within a line each kind yields to those that are tested before it.
-use Rattle.std.specs.Prelude.{ℕ, ◌≡◌, ◌+◌, ◌<◌, ◌≤◌, ◌⊎◌, List, [], ◌∷◌, ◌++◌, length, codes}
-use Rattle.std.specs.Str.{IsUtf8}
+-- The faults of a line, and of the end of a text. Within a line each kind yields to those that are tested before it.
+use Rattle.std.specs.Prelude.{ℕ, ◌≡◌, ◌<◌, ◌≤◌, List, ◌++◌, length, codes}
 use Rattle.spectro_io.specs.Blanks.{trimmed}
-use Rattle.spectro_io.specs.Lines.{first_line, lines_of}
 use Rattle.spectro_spec.specs.System.{System, Step}
 use Rattle.spectro_aut.specs.Fields.{IsLabelField}
-use Rattle.spectro_aut.specs.Grammar.{IsHeader, IsTransition, IsStepLine, IsInRange, IsLabelTooMany, Reading, start, steps, Before, nothing_before, IsFit, Follow}
-use Rattle.spectro_aut.specs.declared.error.AutError.{AutError}
-use Rattle.spectro_aut.specs.declared.error.AutError.TheVariants.{Text, OutOfMemory}
-use Rattle.spectro_aut.specs.declared.error.AutFault.{AutFault}
+use Rattle.spectro_aut.specs.Grammar.{IsHeader, IsTransition, IsStepLine, IsInRange, IsLabelTooMany, Reading, start, steps}
 use Rattle.spectro_aut.specs.declared.error.AutKind.{AutKind}
-use Rattle.spectro_aut.specs.declared.error.AutKind.TheVariants.{NotText, NoHeader, BadHeader, TooManyStates, TooManyTransitions, NoState, BadInitial, BadLine, BadLabel, LabelTooLong, StateRange, TooManyLabels, ExtraLine, MissingLines, TooLong}
+use Rattle.spectro_aut.specs.declared.error.AutKind.TheVariants.{NoHeader, BadHeader, TooManyStates, TooManyTransitions, NoState, BadInitial, BadLine, BadLabel, LabelTooLong, StateRange, TooManyLabels, ExtraLine, MissingLines}
 
 -- the line, trimmed, is to be the header
 pub data IsHeaderFault (text : List ℕ) (kind : AutKind) : Type 0 where
@@ -33,27 +28,10 @@ pub data IsStepFault (transitions : ℕ) (system : System) (text : List ℕ) (ki
 
 -- the line behind what was read so far
 pub data IsLineFault (reading : Reading) (line : List ℕ) (kind : AutKind) : Type 0 where
-  not_text : (IsUtf8 line → ⊥) → kind ≡ NotText → IsLineFault reading line kind
-  header : reading ≡ start → IsUtf8 line → (trimmed line ≡ [] → ⊥) → IsHeaderFault (trimmed line) kind → IsLineFault reading line kind
-  step : (transitions : ℕ) (system : System) → reading ≡ steps transitions system → IsUtf8 line → (trimmed line ≡ [] → ⊥) → IsStepFault transitions system (trimmed line) kind → IsLineFault reading line kind
-
--- the line, with its line end, is too long or has a byte more than a text may have; or else it has one of the other faults
-pub data IsFaulty (before : Before) (line : List ℕ) (kind : AutKind) : Type 0 where
-  too_long : (32768 < length (first_line line)) ⊎ (67108864 < before.bytes + length line) → kind ≡ TooLong → IsFaulty before line kind
-  other : IsFit before.bytes line → IsLineFault before.reading (first_line line) kind → IsFaulty before line kind
+  header : reading ≡ start → IsHeaderFault (trimmed line) kind → IsLineFault reading line kind
+  step : (transitions : ℕ) (system : System) → reading ≡ steps transitions system → IsStepFault transitions system (trimmed line) kind → IsLineFault reading line kind
 
 -- the text ends too early
 pub data EndsEarly (reading : Reading) (kind : AutKind) : Type 0 where
   no_header : reading ≡ start → kind ≡ NoHeader → EndsEarly reading kind
   missing_lines : (transitions : ℕ) (system : System) → reading ≡ steps transitions system → length system.steps < transitions → kind ≡ MissingLines transitions (length system.steps) → EndsEarly reading kind
-
--- no line before this one has a fault, and this one has it; or no line has one, and the text ends too early, at the line behind the last
-pub data IsFirstFault (text : List ℕ) (fault : AutFault) : Type 0 where
-  at_line : (front : List (List ℕ)) (line : List ℕ) (rest : List (List ℕ)) (before : Before) → lines_of text ≡ front ++ line ∷ rest → Follow nothing_before front before
-      → IsFaulty before line fault.kind → fault.line ≡ before.lines + 1 → IsFirstFault text fault
-  at_end : (after : Before) → Follow nothing_before (lines_of text) after → EndsEarly after.reading fault.kind → fault.line ≡ after.lines + 1 → IsFirstFault text fault
-
--- what an error says of the bytes; want of memory says nothing
-abbrev pub IsRefused : List ℕ → AutError → Type 0
-IsRefused bytes (Text fault) = IsFirstFault bytes fault
-IsRefused bytes OutOfMemory = Unit {0}

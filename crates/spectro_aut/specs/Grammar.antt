@@ -1,9 +1,8 @@
--- Aldebaran texts of systems: a header, and a line for each step. Lines of blanks alone count for nothing.
-use Rattle.std.specs.Prelude.{ℕ, ◌≡◌, ◌+◌, ◌<◌, ◌≤◌, true, false, List, [], ◌∷◌, ◌++◌, length, codes}
+-- The lines of Aldebaran texts: a header, and a line for each step.
+use Rattle.std.specs.Prelude.{ℕ, ◌≡◌, ◌<◌, ◌≤◌, true, false, List, [], ◌∷◌, ◌++◌, length, codes}
 use Rattle.std.specs.List.{list_all, list_any}
-use Rattle.std.specs.Str.{bytes_eq, IsUtf8}
+use Rattle.std.specs.Str.{bytes_eq}
 use Rattle.spectro_io.specs.Blanks.{is_blank, trimmed}
-use Rattle.spectro_io.specs.Lines.{first_line, lines_of}
 use Rattle.spectro_spec.specs.System.{System, Step}
 use Rattle.spectro_lts.specs.Labels.{labels_of}
 use Rattle.spectro_aut.specs.Fields.{IsNumberField, IsLabelField}
@@ -61,39 +60,10 @@ pub data Reading : Type 0 where
   start : Reading
   steps : ℕ → System → Reading
 
--- what the lines so far have given, and the line after them, are this together
+-- what the lines so far have given, and the line after them, which is not blank, are this together
 pub data Gives (reading : Reading) (line : List ℕ) (next : Reading) : Type 0 where
-  skipped : trimmed line ≡ [] → next ≡ reading → Gives reading line next
   header : (initial transitions states : ℕ) → reading ≡ start → IsHeader (trimmed line) initial transitions states → IsWithinLimits initial transitions states
       → next ≡ steps transitions (without_steps initial states) → Gives reading line next
   step : (transitions : ℕ) (system : System) (step : Step) → reading ≡ steps transitions system → IsStepLine (trimmed line) step
       → length step.label ≤ 8192 → IsInRange system step → (IsLabelTooMany system step → ⊥) → length system.steps < transitions
       → next ≡ steps transitions (with_step system step) → Gives reading line next
-
--- what stands before a line: so many bytes, so many lines, and what these have given
-pub record Before : Type 0 where
-  pub bytes : ℕ
-  pub lines : ℕ
-  pub reading : Reading
-
-abbrev pub nothing_before : Before
-nothing_before = record { bytes = 0; lines = 0; reading = start }
-
--- the line, with its line end, is short enough, and ends within the bytes that a text may have
-pub record IsFit (bytes : ℕ) (line : List ℕ) : Type 0 where
-  pub short : length (first_line line) ≤ 32768
-  pub within : bytes + length line ≤ 67108864
-
--- what stands behind the line that gave this
-abbrev pub behind : Before → List ℕ → Reading → Before
-behind before line reading = record { bytes = before.bytes + length line; lines = before.lines + 1; reading = reading }
-
--- none of the lines has a fault, and this stands behind them
-abbrev pub Follow : Before → List (List ℕ) → Before → Type 0
-Follow before [] after = after ≡ before
-Follow before (line ∷ lines) after =
-    (reading : Reading) × IsFit before.bytes line × IsUtf8 (first_line line) × Gives before.reading (first_line line) reading × Follow (behind before line reading) lines after
-
--- the lines of the text have no fault, and give the system with as many steps as the header says
-abbrev pub IsText : List ℕ → System → Type 0
-IsText text system = (after : Before) × Follow nothing_before (lines_of text) after × (after.reading ≡ steps (length system.steps) system)

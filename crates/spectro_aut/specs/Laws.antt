@@ -2,8 +2,7 @@
 use Rattle.std.specs.Prelude.{ℕ, ◌≡◌, ◌≤◌, ◌⊎◌, List, length, take}
 use Rattle.spectro_io.specs.Limits.{read_limit}
 use Rattle.spectro_spec.specs.System.{System}
-use Rattle.spectro_aut.specs.Grammar.{IsText}
-use Rattle.spectro_aut.specs.Faults.{IsFirstFault}
+use Rattle.spectro_aut.specs.Texts.{IsText, IsFirstFault}
 use Rattle.spectro_aut.specs.declared.error.AutFault.{AutFault}
 
 -- a text is of at most one system

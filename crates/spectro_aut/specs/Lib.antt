@@ -2,6 +2,7 @@ pub mod Kinds
 pub mod Fields
 pub mod Grammar
 pub mod Faults
+pub mod Texts
 pub mod Reading
 pub mod Readings
 pub mod Feeding

@@ -1,5 +1,5 @@
 -- What a line gives, found from left to right.
-use Rattle.std.specs.Prelude.{ℕ, ◌+◌, ◌==◌, ◌&&◌, ◌||◌, not, Bool, true, false, nat_lt, nat_le, List, [], ◌∷◌, length, take, drop, reverse, position, Option, None, Some, Result, Ok, Err, codes, if◌then◌else◌}
+use Rattle.std.specs.Prelude.{ℕ, ◌+◌, ◌==◌, ◌&&◌, ◌||◌, not, Bool, nat_lt, nat_le, List, [], ◌∷◌, length, take, drop, reverse, position, Option, None, Some, Result, Ok, Err, codes, if◌then◌else◌}
 use Rattle.std.specs.List.{list_any}
 use Rattle.std.specs.Option.{option_map}
 use Rattle.std.specs.Str.{bytes_eq, is_utf8}
@@ -10,7 +10,7 @@ use Rattle.spectro_spec.specs.System.{System, Step}
 use Rattle.spectro_lts.specs.Labels.{labels_of}
 use Rattle.spectro_aut.specs.Grammar.{Reading, start, steps, with_step, without_steps}
 use Rattle.spectro_aut.specs.declared.error.AutKind.{AutKind}
-use Rattle.spectro_aut.specs.declared.error.AutKind.TheVariants.{NotText, NoHeader, BadHeader, TooManyStates, TooManyTransitions, NoState, BadInitial, BadLine, BadLabel, LabelTooLong, StateRange, TooManyLabels, ExtraLine, MissingLines, TooLong}
+use Rattle.spectro_aut.specs.declared.error.AutKind.TheVariants.{NoHeader, BadHeader, TooManyStates, TooManyTransitions, NoState, BadInitial, BadLine, BadLabel, LabelTooLong, StateRange, TooManyLabels, ExtraLine}
 use Rattle.spectro_aut.specs.declared.header.Header.{Header}
 
 -- what is left before the byte, where the text ends with it
@@ -131,21 +131,3 @@ stepped transitions system (Err kind) = Err kind
 abbrev pub line_read : Reading → List ℕ → Result Reading AutKind
 line_read start text = started (header_in text)
 line_read (steps transitions system) text = stepped transitions system (step_in transitions system text)
-
--- whether the text is empty
-abbrev pub is_nil : List ℕ → Bool
-is_nil [] = true
-is_nil (byte ∷ bytes) = false
-
--- what a line without its line end gives behind the others, or its fault
-unfoldable pub line_given : Reading → List ℕ → Result Reading AutKind
-line_given reading line =
-    if nat_lt 32768 (length line) then Err TooLong
-    else (if not (is_utf8 line) then Err NotText
-    else (if is_nil (trimmed line) then Ok reading
-    else line_read reading (trimmed line)))
-
--- the system of the lines, if there are as many steps as the header says; or else the fault of the text's end
-abbrev pub ended_reading : Reading → Result System AutKind
-ended_reading start = Err NoHeader
-ended_reading (steps transitions system) = if nat_lt (length system.steps) transitions then Err (MissingLines transitions (length system.steps)) else Ok system

@@ -3,7 +3,7 @@ use Rattle.std.specs.Prelude.{ℕ, ◌≤◌, List, length, All}
 use Rattle.std.specs.Str.{IsUtf8}
 use Rattle.spectro_spec.specs.System.{System, IsWhole, IsLabel}
 use Rattle.spectro_lts.specs.Labels.{labels_of}
-use Rattle.spectro_aut.specs.Grammar.{IsText}
+use Rattle.spectro_aut.specs.Texts.{IsText}
 use Rattle.spectro_aut.specs.Written.{text_of}
 
 -- the system is whole, its states, steps and labels are few enough for a text, and each label is UTF-8, short, and without an LF

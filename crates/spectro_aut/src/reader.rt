@@ -1,6 +1,5 @@
 ghost use Rattle.std.specs.Prelude.{IfOk, IfErr};
-ghost use Rattle.spectro_aut.specs.Faults.{IsRefused};
-ghost use Rattle.spectro_aut.specs.Grammar.{IsText};
+ghost use Rattle.spectro_aut.specs.Texts.{IsRefused, IsText};
 
 use crate::{AutError, Feed};
 use spectro_lts::Lts;

@@ -1,18 +1,20 @@
 ghost use Rattle.std.specs.Prelude.{◌≡◌, Contains, Some, IfOk};
 ghost use Rattle.spectro_aut.specs.Grammar.{start};
-ghost use Rattle.spectro_aut.specs.Reading.{ended_reading, header_in, line_given, line_read, started, step_in};
+ghost use Rattle.spectro_aut.specs.Reading.{header_in, line_read, started, step_in};
+ghost use Rattle.spectro_aut.specs.Texts.{aut_form};
 ghost use Rattle.spectro_aut.specs.Readings.{given, reading_of, step_of, IsDraftOf};
 
 use crate::AutKind;
 use crate::header::{Header, header_in};
-use crate::transition::{is_text, label_of, transition_of};
+use crate::transition::{label_of, transition_of};
 use spectro_io::trim;
+use spectro_lines::{Grammar, LineFault};
 use spectro_lts::{Draft, Lts};
 use std::alloc::{AllocError, Global};
 use std::marker::Model;
 
-/// In bytes, without the line end.
-const MAX_LINE: usize = 32_768;
+/// In bytes, line ends counted.
+const MAX_TEXT: usize = 67_108_864;
 
 /// In bytes.
 const MAX_LABEL: usize = 8192;
@@ -43,38 +45,57 @@ impl Model for Reading {
     ghost invariant = { λ reading. IsWithin reading.steps };
 }
 
-impl Reading {
-    /// Nothing was read.
-    pub(crate) fn new() -> Reading
-        ensures { result ≡ start }
-    {
+impl Grammar for Reading {
+    type Value = Lts;
+
+    type Kind = AutKind;
+
+    ghost form = { aut_form };
+
+    fn start(_alloc: Global) -> Reading {
         Reading { steps: None }
     }
 
-    /// Takes a line without its line end behind the others. Answers its fault, if it has one.
-    #[tactic(auto, unfolding(crate::specs::Reading::line_given))]
-    pub(crate) fn take_line(
+    fn take_line(
         &mut self,
         alloc: Global,
-        line: &[u8],
-    ) -> Result<Option<AutKind>, AllocError>
-        requires { ¬ Contains line.now 10 }
-        ensures { IfOk result (λ fault. given fault self.new ≡ line_given self.old line.now) }
-    {
-        if line.len() > MAX_LINE {
-            return Ok(Some(AutKind::TooLong));
-        }
-        if !is_text(line) {
-            return Ok(Some(AutKind::NotText));
-        }
-        let line = trim(line);
-        if line.is_empty() {
-            return Ok(None);
-        }
-        self.take_trimmed(alloc, line)
+        line: &str,
+        _number: u64,
+    ) -> Result<Option<AutKind>, AllocError> {
+        let _ = &self.steps;
+        self.take_trimmed(alloc, trim(line.as_bytes()))
     }
 
-    // Takes a line without blanks at its ends, and not empty.
+    fn finish(self, lines: u64) -> Result<Result<Lts, LineFault<AutKind>>, AllocError> {
+        let line = lines + 1;
+        let Some(steps) = self.steps else {
+            let kind = AutKind::NoHeader;
+            return Ok(Err(LineFault { line, kind }));
+        };
+        let said = steps.header.transitions as u32;
+        let found = steps.draft.step_count();
+        if found < said {
+            let kind = AutKind::MissingLines { said, found };
+            return Ok(Err(LineFault { line, kind }));
+        }
+        Ok(Ok(steps.draft.finish()?))
+    }
+
+    fn limit() -> usize {
+        MAX_TEXT
+    }
+
+    fn too_long() -> AutKind {
+        AutKind::TooLong
+    }
+
+    fn not_text() -> AutKind {
+        AutKind::NotText
+    }
+}
+
+impl Reading {
+    // Takes a line without blanks at its ends.
     fn take_trimmed(&mut self, alloc: Global, line: &[u8]) -> Result<Option<AutKind>, AllocError>
         requires { ¬ Contains line.now 10 }
         ensures { IfOk result (λ fault. given fault self.new ≡ line_read self.old line.now) }
@@ -98,21 +119,6 @@ impl Reading {
             }
             Err(kind) => Ok(Some(kind)),
         }
-    }
-
-    /// The system, if there are as many steps as the header says; or else the fault of the text's end.
-    pub(crate) fn finish(self) -> Result<Result<Lts, AutKind>, AllocError>
-        ensures { IfOk result (λ ended. ended ≡ ended_reading self) }
-    {
-        let Some(steps) = self.steps else {
-            return Ok(Err(AutKind::NoHeader));
-        };
-        let said = steps.header.transitions as u32;
-        let found = steps.draft.step_count();
-        if found < said {
-            return Ok(Err(AutKind::MissingLines { said, found }));
-        }
-        Ok(Ok(steps.draft.finish()?))
     }
 }
 

@@ -1,6 +1,5 @@
 ghost use Rattle.std.specs.Prelude.{◌≡◌};
 ghost use Rattle.std.specs.Option.{option_map};
-ghost use Rattle.std.specs.Str.{is_utf8};
 ghost use Rattle.spectro_aut.specs.Reading.{label_of, transition_of, utf8_of};
 
 use crate::fields::{before_last, field_number, split_at_first, split_at_last};
@@ -31,13 +30,6 @@ pub(crate) fn transition_of(line: &[u8]) -> Option<Transition<'_>>
         field: trim(field),
         target,
     })
-}
-
-/// Whether the bytes are UTF-8.
-pub(crate) fn is_text(bytes: &[u8]) -> bool
-    ensures { result ≡ is_utf8 bytes.now }
-{
-    str::from_utf8(bytes).is_ok()
 }
 
 // The bytes as a text, where they are UTF-8.

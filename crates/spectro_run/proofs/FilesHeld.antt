@@ -14,7 +14,8 @@ files_held left right weights Weights = weights
 files_held left right weights Formula = None
 files_held left right weights Certificate = None
 
-pub are-held : (told : Option Texts) (command : Command) (left right weights : Option (List ℕ)) → IsHeld told (file_of Left command) left → IsHeld told (file_of Right command) right
+pub are-held : (told : Option Texts) (command : Command) (left right weights : Option (List ℕ)) → IsHeld told (file_of Left command) left
+    → IsHeld told (file_of Right command) right
     → IsHeld told (file_of Weights command) weights → AreHeld told (Some command) (files_held left right weights)
 are-held told command left right weights first second third Left = first
 are-held told command left right weights first second third Right = second

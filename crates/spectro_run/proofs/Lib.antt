@@ -3,6 +3,7 @@ pub mod Endings
 pub mod FilesHeld
 pub mod OneOutcome
 pub mod OneStage
+pub mod SomeOutcome
 pub mod PutLines
 pub mod ReadFronts
 pub mod Sized

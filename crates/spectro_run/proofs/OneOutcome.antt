@@ -33,8 +33,10 @@ use Rattle.spectro_run.proofs.OneStage.{EndsInOneWay, after-one, writes-one}
 
 -- ---- the stages
 -- what a file holds, of texts that have one value or one refusal
-file-one : {T : Type 0} (IsTextOf : List ℕ → T → Type 0) (Refuses : List ℕ → Status → Type 0) → ((text : List ℕ) (one other : T) → IsTextOf text one → IsTextOf text other → one ≡ other)
-    → ((text : List ℕ) (one other : Status) → Refuses text one → Refuses text other → one ≡ other) → ((text : List ℕ) (status : Status) (value : T) → Refuses text status → IsTextOf text value → ⊥)
+file-one : {T : Type 0} (IsTextOf : List ℕ → T → Type 0) (Refuses : List ℕ → Status → Type 0)
+    → ((text : List ℕ) (one other : T) → IsTextOf text one → IsTextOf text other → one ≡ other)
+    → ((text : List ℕ) (one other : Status) → Refuses text one → Refuses text other → one ≡ other)
+    → ((text : List ℕ) (status : Status) (value : T) → Refuses text status → IsTextOf text value → ⊥)
     → (held : Option (List ℕ)) → EndsInOneWay {T = T} (record { Refuses = RefusesHeld Refuses held; Gives = Holds IsTextOf held })
 file-one IsTextOf Refuses value refusal apart None = record {
   value = λ one other first second. absurd first;
@@ -66,24 +68,31 @@ pairs-one one left right limit = record {
       omega (arith, ap game.size same, refuses.1.2, gives.1);
 }
 
-module _ (one_system : systems.EachTextHasAtMostOneSystem) (one_fault : systems.EachTextHasAtMostOneFirstFault) (no_fault : systems.TextsOfSystemsHaveNoFault) where
+module _ (one_system : systems.EachTextHasAtMostOneSystem) (one_fault : systems.EachTextHasAtMostOneFirstFault)
+    (no_fault : systems.TextsOfSystemsHaveNoFault) where
   system-one : (which : Which) (held : Option (List ℕ)) → EndsInOneWay (system_of which held)
   system-one which =
       file-one _ _ one_system
-      (λ text one other first second. first.2 ∙ ap (λ (fault : AutFault). BadText (record { which = which; at = fault.line; kind = kinds.Aut fault.kind })) (one_fault text first.0 second.0 first.1 second.1) ∙ sym second.2)
+      (λ text one other first second. first.2
+          ∙ ap (λ (fault : AutFault). BadText (record { which = which; at = fault.line; kind = kinds.Aut fault.kind }))
+          (one_fault text first.0 second.0 first.1 second.1) ∙ sym second.2)
       (λ text status system refuses is. no_fault text system refuses.0 is refuses.1)
 
-module _ (one_formula : formulas.EachTextHasAtMostOneFormula) (one_fault : formulas.EachTextHasAtMostOneFirstFault) (no_fault : formulas.TextsOfFormulasHaveNoFault) where
+module _ (one_formula : formulas.EachTextHasAtMostOneFormula) (one_fault : formulas.EachTextHasAtMostOneFirstFault)
+    (no_fault : formulas.TextsOfFormulasHaveNoFault) where
   formula-one : (word : Word) → EndsInOneWay (formula_of word)
   formula-one word = record {
     value = one_formula word;
     refusal =
-        λ one other first second. first.2 ∙ ap (λ (fault : TextFault). BadText (record { which = FormulaText; at = fault.at; kind = kinds.Formula fault.kind })) (one_fault word first.0 second.0 first.1 second.1)
+        λ one other first second. first.2
+            ∙ ap (λ (fault : TextFault). BadText (record { which = FormulaText; at = fault.at; kind = kinds.Formula fault.kind }))
+            (one_fault word first.0 second.0 first.1 second.1)
         ∙ sym second.2;
     apart = λ status formula refuses is. no_fault word formula refuses.0 is refuses.1;
   }
 
-module _ (one_weighing : weightings.EachTextHasAtMostOneWeighing) (one_fault : weightings.EachTextHasAtMostOneFirstFault) (no_fault : weightings.TextsOfWeighingsHaveNoFault) where
+module _ (one_weighing : weightings.EachTextHasAtMostOneWeighing) (one_fault : weightings.EachTextHasAtMostOneFirstFault)
+    (no_fault : weightings.TextsOfWeighingsHaveNoFault) where
   weighing-one : (weights : Option Word) (held : Option (List ℕ)) → EndsInOneWay (weighing_of weights held)
   weighing-one None held = record {
     value = λ one other first second. first ∙ sym second;
@@ -92,7 +101,9 @@ module _ (one_weighing : weightings.EachTextHasAtMostOneWeighing) (one_fault : w
   }
   weighing-one (Some name) held =
       file-one _ _ one_weighing
-      (λ text one other first second. first.2 ∙ ap (λ (fault : WeightFault). BadText (record { which = Weights; at = fault.line; kind = kinds.Weights fault.kind })) (one_fault text first.0 second.0 first.1 second.1) ∙ sym second.2)
+      (λ text one other first second. first.2
+          ∙ ap (λ (fault : WeightFault). BadText (record { which = Weights; at = fault.line; kind = kinds.Weights fault.kind }))
+          (one_fault text first.0 second.0 first.1 second.1) ∙ sym second.2)
       (λ text status weighing refuses is. no_fault text weighing refuses.0 is refuses.1) held
 
 -- ---- the commands
@@ -103,13 +114,16 @@ module _
     (pairs : (left right : System) (limit : ℕ) → EndsInOneWay (pairs_of left right limit))
   where
     command-one : (asked : Option Command) (held : Held) → IsAtMostOne (outcome_of asked held)
-    command-one None held = record { status = λ one other bytes more first second. first.0 ∙ sym second.0; bytes = λ one other bytes more first second. first.1 ∙ sym second.1 }
+    command-one None held = record { status = λ one other bytes more first second. first.0
+        ∙ sym second.0; bytes = λ one other bytes more first second. first.1 ∙ sym second.1 }
     command-one (Some (eval word file weights)) held =
-        after-one _ _ (system Left (held Left)) (λ s _. after-one _ _ (formula word) (λ f _. after-one _ _ (weighing weights (held Weights)) (λ w _. after-one _ _ (truth-one s f)
+        after-one _ _ (system Left (held Left))
+        (λ s _. after-one _ _ (formula word) (λ f _. after-one _ _ (weighing weights (held Weights)) (λ w _. after-one _ _ (truth-one s f)
         (λ truth _. writes-one (eval_text truth (parts_shown weights) (price w f))))))
     command-one (Some (rewrite file)) held = after-one _ _ (system Left (held Left)) (λ s _. writes-one (text_of s))
     command-one (Some (pricing word weights)) held =
-        after-one _ _ (formula word) (λ f _. after-one _ _ (weighing weights (held Weights)) (λ w _. writes-one (priced_text (formula_text f) (parts_shown weights) (price w f))))
+        after-one _ _ (formula word)
+        (λ f _. after-one _ _ (weighing weights (held Weights)) (λ w _. writes-one (priced_text (formula_text f) (parts_shown weights) (price w f))))
     command-one (Some (size left right limit)) held =
         after-one _ _ (system Left (held Left)) (λ first _. after-one _ _ (system Right (held Right)) (λ second _. after-one _ _ (pairs first second limit)
         (λ pairs _. writes-one (size_line (length pairs) (game.size pairs)))))
@@ -119,4 +133,5 @@ pub one_of_command : systems.EachTextHasAtMostOneSystem → systems.EachTextHasA
     → weightings.EachTextHasAtMostOneWeighing → weightings.EachTextHasAtMostOneFirstFault → weightings.TextsOfWeighingsHaveNoFault → ReachedPairsAreOne
     → (asked : Option Command) (held : Held) → IsAtMostOne (outcome_of asked held)
 one_of_command one_system one_fault no_fault one_formula one_formula_fault no_formula_fault one_weighing one_weight_fault no_weight_fault one_list =
-    command-one (system-one one_system one_fault no_fault) (formula-one one_formula one_formula_fault no_formula_fault) (weighing-one one_weighing one_weight_fault no_weight_fault) (pairs-one one_list)
+    command-one (system-one one_system one_fault no_fault) (formula-one one_formula one_formula_fault no_formula_fault)
+    (weighing-one one_weighing one_weight_fault no_weight_fault) (pairs-one one_list)

@@ -9,7 +9,8 @@ pub record EndsInOneWay {T : Type 0} (stage : Stage T) : Type 0 where
   pub refusal : (one other : Status) → stage.Refuses one → stage.Refuses other → one ≡ other
   pub apart : (status : Status) (value : T) → stage.Refuses status → stage.Gives value → ⊥
 
-module _ {T : Type 0} (stage : Stage T) (Rest : T → Outcome) (way : EndsInOneWay stage) (rest : (value : T) → stage.Gives value → IsAtMostOne (Rest value)) where
+module _ {T : Type 0} (stage : Stage T) (Rest : T → Outcome) (way : EndsInOneWay stage) (rest : (value : T) → stage.Gives value
+    → IsAtMostOne (Rest value)) where
   after-same : (one other : Status) (bytes more : List ℕ) → After stage Rest one bytes → After stage Rest other more → (one ≡ other) × (bytes ≡ more)
   after-same one other bytes more (refused first none) (refused second none') = (way.refusal one other first second, none ∙ sym none')
   after-same one other bytes more (refused first none) (given value gives second) = absurd (way.apart one value first gives)

@@ -18,20 +18,24 @@ one_start first second = refl
 
 -- there is a list of the pairs
 pub some_compared : (left right : System) → (pairs : List Pair) × AreCompared left right pairs
-some_compared left right = some_pairs (join left right) (compared left right ∷ []) (λ i j x first second. only i j (stands-below (compared left right ∷ []) i x first) (stands-below (compared left right ∷ []) j x second))
+some_compared left right = some_pairs (join left right) (compared left right ∷ [])
+    (λ i j x first second. only i j (stands-below (compared left right ∷ []) i x first) (stands-below (compared left right ∷ []) j x second))
   where
     only : (i j : ℕ) → i < 1 → j < 1 → i ≡ j
     only i j first second = omega arith
 
 -- what is reached from the one start of the joined system is the pairs of the comparison, and the other way
-pub reached_compared : (left right system : System) (first second : ℕ) (pairs : List Pair) → system ≡ join left right → first ≡ left.initial → second ≡ left.states + right.initial
+pub reached_compared : (left right system : System) (first second : ℕ) (pairs : List Pair) → system ≡ join left right → first ≡ left.initial
+    → second ≡ left.states + right.initial
     → AreReachedPairs system (start_pairs ((first, second) ∷ [])) pairs ≡ AreCompared left right pairs
 reached_compared left right system first second pairs joined same also =
-    let starts : start_pairs ((first, second) ∷ []) ≡ compared left right ∷ [] = one_start first second ∙ (λ i. record { state = same i; set = also i ∷ [] } ∷ []) in
+    let starts : start_pairs ((first, second) ∷ []) ≡ compared left right ∷ [] = one_start first second
+        ∙ (λ i. record { state = same i; set = also i ∷ [] } ∷ []) in
     λ i. AreReachedPairs (joined i) (starts i) pairs
 
 -- where each list of what is reached is past the limit, the comparison is
-pub past_limit : (left right system : System) (first second limit at_least : ℕ) → system ≡ join left right → first ≡ left.initial → second ≡ left.states + right.initial
+pub past_limit : (left right system : System) (first second limit at_least : ℕ) → system ≡ join left right → first ≡ left.initial
+    → second ≡ left.states + right.initial
     → ((pairs : List Pair) → AreReachedPairs system (start_pairs ((first, second) ∷ [])) pairs → IsPastLimit (TooLarge at_least) limit (game.size pairs))
     → (pairs : List Pair) × AreCompared left right pairs × (limit < game.size pairs)
 past_limit left right system first second limit at_least joined same also past =

@@ -8,18 +8,21 @@ use Rattle.spectro_run.specs.Stops.{Counts, IsStop, Stops, no_memory, refused, u
 use Rattle.spectro_run.specs.declared.status.Status.{Status}
 
 -- what stops for one reason stops for one that is as good
-pub stops-map : {P Q : Status → Type 0} {Failed More : Type 0} (status : Status) → (P status → Q status) → (Failed → More) → Stops P Failed status → Stops Q More status
+pub stops-map : {P Q : Status → Type 0} {Failed More : Type 0} (status : Status) → (P status → Q status) → (Failed → More) → Stops P Failed status
+    → Stops Q More status
 stops-map status map wider (no_memory is) = no_memory is
 stops-map status map wider (unread is failed) = unread is (wider failed)
 stops-map status map wider (refused stop refuses) = refused stop (map refuses)
 
 -- the first stage of a chain stops
-pub stops-first : {T : Type 0} {Failed More : Type 0} (stage : Stage T) (Rest : T → Outcome) (status : Status) → (Failed → More) → Stops stage.Refuses Failed status
+pub stops-first : {T : Type 0} {Failed More : Type 0} (stage : Stage T) (Rest : T → Outcome) (status : Status) → (Failed → More)
+    → Stops stage.Refuses Failed status
     → Stops (λ status. After stage Rest status []) More status
 stops-first stage Rest status = stops-map status (λ refuses. stages.refused refuses refl)
 
 -- the chain behind it stops
-pub stops-behind : {T : Type 0} {Failed More : Type 0} (stage : Stage T) (Rest : T → Outcome) (value : T) (status : Status) → stage.Gives value → (Failed → More)
+pub stops-behind : {T : Type 0} {Failed More : Type 0} (stage : Stage T) (Rest : T → Outcome) (value : T) (status : Status) → stage.Gives value
+    → (Failed → More)
     → Stops (λ status. Rest value status []) Failed status → Stops (λ status. After stage Rest status []) More status
 stops-behind stage Rest value status gives = stops-map status (λ rest. stages.given value gives rest)
 
@@ -44,7 +47,8 @@ pub rose-wider : (earlier before now later : ℕ) → earlier ≤ before → now
 rose-wider earlier before now later first last rose = omega (arith, first, last, rose)
 
 -- how the last stage ends, as how the chain does
-pub ends-as : {T : Type 0} {P A : T → Type 0} {Q B : Status → Type 0} (result : Result T Status) → IfOk result P → IfErr result Q → ((value : T) → P value → A value) → ((status : Status) → Q status → B status)
+pub ends-as : {T : Type 0} {P A : T → Type 0} {Q B : Status → Type 0} (result : Result T Status) → IfOk result P → IfErr result Q
+    → ((value : T) → P value → A value) → ((status : Status) → Q status → B status)
     → MatchResult result A B
 ends-as (Ok value) ok err gives stops = gives value ok
 ends-as (Err status) ok err gives stops = stops status err

@@ -17,17 +17,18 @@ pub record HasTakenSoFar (old new : Option (List ℕ)) (feed : Fed) (count : ℕ
   pub counted : length bytes ≡ count
   pub taken : HasTaken feed bytes
 
-pub taken_more : (old now new : Option (List ℕ)) (feed grown : Fed) (count : ℕ) (piece : List ℕ) → HasTakenSoFar old now feed count → Consumes now new piece
-    → ((taken : List ℕ) → HasTaken feed taken → HasTaken grown (taken ++ piece)) → HasTakenSoFar old new grown (count + length piece)
-taken_more old now new feed grown count piece so_far more grows = record {
+pub taken_more : (old now new : Option (List ℕ)) (feed grown : Fed) (count added : ℕ) (piece : List ℕ) → HasTakenSoFar old now feed count
+    → Consumes now new piece → added ≡ length piece → ((taken : List ℕ) → HasTaken feed taken → HasTaken grown (taken ++ piece)) → HasTakenSoFar old new grown (count + added)
+taken_more old now new feed grown count added piece so_far more same grows = record {
   bytes = so_far.bytes ++ piece;
   front = Consumes-trans _ _ _ _ _ so_far.front more;
-  counted = let counted = so_far.counted in omega (arith, length-append so_far.bytes piece);
+  counted = let counted = so_far.counted in omega (arith, same, length-append so_far.bytes piece);
   taken = grows so_far.bytes so_far.taken;
 }
 
 -- as many bytes were taken as are read of a text
-pub taken_full : (old new : Option (List ℕ)) (feed : Fed) (count : ℕ) → HasTakenSoFar old new feed count → count ≤ 67108865 → 67108865 ≤ count → TakesAll old new feed
+pub taken_full : (old new : Option (List ℕ)) (feed : Fed) (count : ℕ) → HasTakenSoFar old new feed count → count ≤ 67108865 → 67108865 ≤ count
+    → TakesAll old new feed
 unfolding read_limit
 taken_full old new feed count so_far within full =
     let counted = so_far.counted in
@@ -38,22 +39,26 @@ taken_full old new feed count so_far within full =
     }
 
 -- no byte is left
-pub taken_whole : (old now new : Option (List ℕ)) (feed : Fed) (count : ℕ) → HasTakenSoFar old now feed count → count ≤ 67108865 → Consumes now new [] → IsAtEnd new → TakesAll old new feed
+pub taken_whole : (old now new : Option (List ℕ)) (feed : Fed) (count : ℕ) → HasTakenSoFar old now feed count → count ≤ 67108865 → Consumes now new []
+    → IsAtEnd new → TakesAll old new feed
 unfolding read_limit
 taken_whole old now new feed count so_far within none end =
     let counted = so_far.counted in
     record {
       bytes = so_far.bytes;
-      read = record { front = subst (Consumes old new) (append-nil so_far.bytes) (Consumes-trans _ _ _ _ _ so_far.front none); within = omega arith; end = λ less. end };
+      read = record { front = subst (Consumes old new) (append-nil so_far.bytes)
+          (Consumes-trans _ _ _ _ _ so_far.front none); within = omega arith; end = λ less. end };
       taken = so_far.taken;
     }
 
 -- what was taken of an open text is what its name holds
-held_text : (told : Option Texts) (name bytes : List ℕ) (left : Option (List ℕ)) → Opens told name true left → IfSome left (λ xs. bytes ≡ take read_limit xs) → IfSome told (HasRead name bytes)
+held_text : (told : Option Texts) (name bytes : List ℕ) (left : Option (List ℕ)) → Opens told name true left
+    → IfSome left (λ xs. bytes ≡ take read_limit xs) → IfSome told (HasRead name bytes)
 held_text None name bytes left opened front = tt
 held_text (Some texts) name bytes left opened front = (opened.0, opened.1, subst (λ left. IfSome left (λ xs. bytes ≡ take read_limit xs)) opened.2 front)
 
-pub text_taken : (told : Option Texts) (name : List ℕ) (left new : Option (List ℕ)) (feed : Fed) → Opens told name true left → TakesAll left new feed → HasTakenText told name feed
+pub text_taken : (told : Option Texts) (name : List ℕ) (left new : Option (List ℕ)) (feed : Fed) → Opens told name true left → TakesAll left new feed
+    → HasTakenText told name feed
 text_taken told name left new feed opened all = record {
   bytes = all.bytes;
   taken = all.taken;

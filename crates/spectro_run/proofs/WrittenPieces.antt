@@ -9,20 +9,24 @@ use Rattle.spectro_run.specs.Pieces.{piece_text, pieces_text}
 use Rattle.spectro_run.specs.declared.pieces.Piece.{Piece}
 
 -- the text from a place on begins with that of the piece there
-next_text : (pieces : List Piece) (k : ℕ) (d : Piece) → k < length pieces → pieces_text (drop k pieces) ≡ piece_text (get_or pieces k d) ++ pieces_text (drop (k + 1) pieces)
+next_text : (pieces : List Piece) (k : ℕ) (d : Piece) → k < length pieces
+    → pieces_text (drop k pieces) ≡ piece_text (get_or pieces k d) ++ pieces_text (drop (k + 1) pieces)
 next_text pieces k d less = rw add-one (ap pieces_text (drop-cons pieces k d less))
 
 -- the next piece was written
-pub pieces-more : (old mid new : Option (List ℕ)) (bytes : List ℕ) (pieces : List Piece) (k : ℕ) (d : Piece) → HasWritten old mid bytes (pieces_text (drop k pieces)) → k < length pieces
+pub pieces-more : (old mid new : Option (List ℕ)) (bytes : List ℕ) (pieces : List Piece) (k : ℕ) (d : Piece)
+    → HasWritten old mid bytes (pieces_text (drop k pieces)) → k < length pieces
     → Appends mid new (piece_text (get_or pieces k d)) → HasWritten old new bytes (pieces_text (drop (k + 1) pieces))
 pieces-more old mid new bytes pieces k d so_far less more = record {
   done = so_far.done ++ piece_text (get_or pieces k d);
-  whole = so_far.whole ∙ ap (λ rest. so_far.done ++ rest) (next_text pieces k d less) ∙ sym (append_assoc so_far.done (piece_text (get_or pieces k d)) (pieces_text (drop (k + 1) pieces)));
+  whole = so_far.whole ∙ ap (λ rest. so_far.done ++ rest) (next_text pieces k d less)
+      ∙ sym (append_assoc so_far.done (piece_text (get_or pieces k d)) (pieces_text (drop (k + 1) pieces)));
   written = Appends-trans old mid new so_far.done (piece_text (get_or pieces k d)) so_far.written more;
 }
 
 -- the next piece was written in part
-pub pieces-part : (old mid new : Option (List ℕ)) (bytes : List ℕ) (pieces : List Piece) (k : ℕ) (d : Piece) → HasWritten old mid bytes (pieces_text (drop k pieces)) → k < length pieces
+pub pieces-part : (old mid new : Option (List ℕ)) (bytes : List ℕ) (pieces : List Piece) (k : ℕ) (d : Piece)
+    → HasWritten old mid bytes (pieces_text (drop k pieces)) → k < length pieces
     → AppendsPart mid new (piece_text (get_or pieces k d)) → AppendsPart old new bytes
 pieces-part old mid new bytes pieces k d so_far less part =
     let piece = piece_text (get_or pieces k d) in

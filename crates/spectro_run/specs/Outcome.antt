@@ -1,6 +1,7 @@
 -- What comes of the words: a status, and the bytes that go out.
 use Rattle.std.specs.Prelude.{ℕ, ◌≡◌, ◌⊎◌, List, [], Option, None, Some}
 use Rattle.std.specs.Io.KnownBytes.{Appends, Keeps}
+use Rattle.std.specs.Str.{IsUtf8}
 use Rattle.spectro_io.specs.Shelves.{Texts}
 use Rattle.spectro_io.specs.Bytes.{AppendsPart}
 use Rattle.spectro_run.specs.Commands.Eval.{eval_outcome}
@@ -22,6 +23,14 @@ outcome_of (Some (rewrite file)) held = rewrite_outcome (held Left)
 outcome_of (Some (price formula weights)) held = price_outcome formula weights (held Weights)
 outcome_of (Some (size left right limit)) held = size_outcome (held Left) (held Right) limit
 
+-- the word that is read as a formula, if the command has one, is of UTF-8, as is each word that a run is handed
+abbrev pub HasUtf8Formula : Option Command → Type 0
+HasUtf8Formula None = Unit {0}
+HasUtf8Formula (Some (eval formula file weights)) = IsUtf8 formula
+HasUtf8Formula (Some (rewrite file)) = Unit {0}
+HasUtf8Formula (Some (price formula weights)) = IsUtf8 formula
+HasUtf8Formula (Some (size left right limit)) = Unit {0}
+
 -- The answer is an outcome, and all of its bytes were written. Or memory ran out, or the shelf failed, and nothing was
 -- written. Or the output failed, and a proper prefix of the bytes was.
 abbrev pub Ends : Outcome → Type 0 → Type 0 → Status → Option (List ℕ) → Option (List ℕ) → Type 0
@@ -31,7 +40,8 @@ Ends Gives ShelfFailed OutFailed WriteFault old new = OutFailed × ((status : St
 Ends Gives ShelfFailed OutFailed status old new = (bytes : List ℕ) × Gives status bytes × Appends old new bytes
 
 -- so it is with the outcome of the command, of what its files hold
-pub record IsAnswered (told : Option Texts) (asked : Option Command) (ShelfFailed OutFailed : Type 0) (status : Status) (old new : Option (List ℕ)) : Type 0 where
+pub record IsAnswered (told : Option Texts) (asked : Option Command) (ShelfFailed OutFailed : Type 0) (status : Status)
+    (old new : Option (List ℕ)) : Type 0 where
   pub held : Held
   pub are : AreHeld told asked held
   pub ends : Ends (outcome_of asked held) ShelfFailed OutFailed status old new

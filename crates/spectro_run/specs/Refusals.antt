@@ -3,13 +3,13 @@ use Rattle.std.specs.Prelude.{ℕ, ◌≡◌, List, [], Option, None, Some}
 use Rattle.spectro_spec.specs.Formula as spec
 use Rattle.spectro_spec.specs.System.{System}
 use Rattle.spectro_spec.specs.Weighing.{Weighing}
-use Rattle.spectro_aut.specs.Faults as aut
-use Rattle.spectro_aut.specs.Grammar.{IsText}
+use Rattle.spectro_aut.specs.Texts as aut
+use Rattle.spectro_aut.specs.Texts.{IsText}
 use Rattle.spectro_aut.specs.declared.error.AutFault.{AutFault}
 use Rattle.spectro_hmltext.specs.Faults as hmltext
 use Rattle.spectro_hmltext.specs.FormulaTexts.{IsFormulaText}
 use Rattle.spectro_hmltext.specs.declared.error.TextFault.{TextFault}
-use Rattle.spectro_weights.specs.Faults as weights
+use Rattle.spectro_weights.specs.WeightTexts as weights
 use Rattle.spectro_weights.specs.WeightTexts.{IsWeightText}
 use Rattle.spectro_weights.specs.declared.error.WeightFault.{WeightFault}
 use Rattle.spectro_run.specs.Stages.{Stage}
@@ -22,15 +22,18 @@ use Rattle.spectro_run.specs.declared.status.Kind.TheVariants as kinds
 
 -- the text is of no system, and the status says which line has the first fault, and which it is
 abbrev pub RefusesSystem : Which → List ℕ → Status → Type 0
-RefusesSystem which text status = (fault : AutFault) × aut.IsFirstFault text fault × (status ≡ BadText (record { which = which; at = fault.line; kind = kinds.Aut fault.kind }))
+RefusesSystem which text status = (fault : AutFault) × aut.IsFirstFault text fault
+    × (status ≡ BadText (record { which = which; at = fault.line; kind = kinds.Aut fault.kind }))
 
 -- the text is of no formula, and the status says where its first fault is, and which it is
 abbrev pub RefusesFormula : List ℕ → Status → Type 0
-RefusesFormula text status = (fault : TextFault) × hmltext.IsFirstFault text fault × (status ≡ BadText (record { which = Formula; at = fault.at; kind = kinds.Formula fault.kind }))
+RefusesFormula text status = (fault : TextFault) × hmltext.IsFirstFault text fault
+    × (status ≡ BadText (record { which = Formula; at = fault.at; kind = kinds.Formula fault.kind }))
 
 -- the text is of no weighing, and the status says which line has the first fault, and which it is
 abbrev pub RefusesWeighing : List ℕ → Status → Type 0
-RefusesWeighing text status = (fault : WeightFault) × weights.IsFirstFault text fault × (status ≡ BadText (record { which = Weights; at = fault.line; kind = kinds.Weights fault.kind }))
+RefusesWeighing text status = (fault : WeightFault) × weights.IsFirstFault text fault
+    × (status ≡ BadText (record { which = Weights; at = fault.line; kind = kinds.Weights fault.kind }))
 
 -- what a file holds is refused: nothing cannot be read, and a text may be refused
 abbrev pub RefusesHeld : (List ℕ → Status → Type 0) → Option (List ℕ) → Status → Type 0

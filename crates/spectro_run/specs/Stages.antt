@@ -25,3 +25,7 @@ Writes text status bytes = (status ≡ Done) × (bytes ≡ text)
 pub record IsAtMostOne (Gives : Outcome) : Type 0 where
   pub status : (one other : Status) (bytes more : List ℕ) → Gives one bytes → Gives other more → one ≡ other
   pub bytes : (one other : Status) (bytes more : List ℕ) → Gives one bytes → Gives other more → bytes ≡ more
+
+-- it has a status and bytes
+abbrev pub IsSome : Outcome → Type 0
+IsSome Gives = (status : Status) × (bytes : List ℕ) × Gives status bytes

@@ -40,7 +40,8 @@ pub record Counts {T : Type 0} (before now : ℕ) (result : Result T Status) : T
   pub kept : KeepsCount before now result
 
 -- a stage of what the file of the name holds, if there is one
-pub record TakesStage {T : Type 0} (told : Option Texts) (name : Option Word) (stage : Option (List ℕ) → Stage T) (ShelfFailed : Type 0) (result : Result T Status) : Type 0 where
+pub record TakesStage {T : Type 0} (told : Option Texts) (name : Option Word) (stage : Option (List ℕ)
+    → Stage T) (ShelfFailed : Type 0) (result : Result T Status) : Type 0 where
   pub held : Option (List ℕ)
   pub is : IsHeld told name held
   pub ends : EndsStage (stage held) ShelfFailed result

@@ -8,14 +8,14 @@
 mod commands;
 mod cost;
 mod message;
+mod outcomes;
 mod output;
 mod pieces;
 mod runner;
 mod status;
 mod texts;
-mod unique;
 mod written;
 
+pub use outcomes::{a_command_has_an_outcome, a_command_has_at_most_one_outcome};
 pub use runner::run;
 pub use status::{BadText, Kind, Status, Which};
-pub use unique::a_command_has_at_most_one_outcome;

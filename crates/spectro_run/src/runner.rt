@@ -5,6 +5,7 @@ ghost use Rattle.spectro_words.specs.Asked.{asked};
 ghost use Rattle.spectro_run.specs.Held.{HasNoFile};
 ghost use Rattle.spectro_run.specs.Messages.{IsUntold, Tells, message};
 ghost use Rattle.spectro_run.specs.Outcome.{IsAnswered, IsSilent};
+ghost use Rattle.spectro_run.specs.Reading.{JudgesWhole};
 ghost use Rattle.spectro_words.specs.Commands.{HasLimit};
 ghost use Rattle.spectro_words.specs.Reading.{command};
 ghost use Rattle.spectro_words.specs.Words.{words_of};
@@ -29,6 +30,7 @@ fn perform<H: Shelf, O: Sink>(
 ) -> Status
     requires limit { IfSome command (λ command. HasLimit (asked command)) }
     ensures answer { IsAnswered (H.texts shelf.old) (option_map asked command.entry) (Rose (H.faults shelf.old) (H.faults shelf.new)) (Rose (O.faults out.old) (O.faults out.new)) result (O.written out.old) (O.written out.new) }
+    ensures whole { JudgesWhole (H.texts shelf.old) (option_map asked command.entry) (H.left shelf.new) result }
     ensures usage { option_map asked command.entry ≡ None → result ≡ Status.Usage }
     ensures read { result ≢ Status.ReadFault → H.faults shelf.new ≡ H.faults shelf.old }
     ensures write { result ≢ Status.WriteFault → O.faults out.new ≡ O.faults out.old }
@@ -68,8 +70,10 @@ pub fn run<H: Shelf, I: Source, O: Sink, E: Sink>(
     out: &mut O,
     err: &mut E,
 ) -> Status
-    // The status and the bytes are those of the words and of what the files hold.
+    // The status and the bytes are those of the words and of what the files hold. A text of a file is judged when it has been
+    // read to its end, or as far as a text is read.
     ensures answer { IsAnswered (H.texts shelf.old) (command (words_of words.now)) (Rose (H.faults shelf.old) (H.faults shelf.new)) (Rose (O.faults out.old) (O.faults out.new)) result (O.written out.old) (O.written out.new) }
+    ensures whole { JudgesWhole (H.texts shelf.old) (command (words_of words.now)) (H.left shelf.new) result }
     ensures usage { command (words_of words.now) ≡ None → result ≡ Status.Usage }
 
     // A device whose fault is not answered did not fail.

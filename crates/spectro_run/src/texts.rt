@@ -4,12 +4,12 @@ ghost use Rattle.std.specs.Prelude.{◌≡◌, ◌≤◌, ℕ, List, None, Some,
 ghost use Rattle.spectro_aut.specs.RoundTrip.{KeepsLimits};
 ghost use Rattle.spectro_io.specs.Faults.{Rose};
 ghost use Rattle.spectro_aut.specs.Feeding.{HasTaken};
-ghost use Rattle.spectro_aut.specs.Grammar.{IsText};
+ghost use Rattle.spectro_aut.specs.Texts.{IsText};
 ghost use Rattle.spectro_hmltext.specs.Parsing.{IsParsed};
 ghost use Rattle.spectro_weights.specs.WeightTexts.{IsWeightText};
 ghost use Rattle.spectro_words.specs.Words.{named};
 ghost use Rattle.spectro_run.specs.Feeds.{TakesAll};
-ghost use Rattle.spectro_run.specs.Reading.{HasRead, HasTakenText, OrMemory, IsUnread};
+ghost use Rattle.spectro_run.specs.Reading.{HasRead, HasTakenText, LeavesRest, OrMemory, IsUnread, ReadsToEnd};
 ghost use Rattle.spectro_run.specs.Refusals.{RefusesSystem, RefusesWeighing, formula_of, system_of, weighing_of};
 ghost use Rattle.spectro_run.specs.Stops.{Counts, Stops, TakesStage};
 
@@ -51,6 +51,7 @@ fn take_all<S: Source>(alloc: Global, source: &mut S) -> Result<Feed, ReadError>
 // A feed that has taken the text that the name holds, or as much of it as is read.
 fn take_text<H: Shelf>(alloc: Global, name: &str, shelf: &mut H) -> Result<Feed, Status>
     ensures text { IfOk result (HasTakenText (H.texts shelf.old) name.now) }
+    ensures rest { IfOk result (λ _. LeavesRest (H.texts shelf.old) (Some name.now) (H.left shelf.new)) }
     ensures cause { IfErr result (OrMemory (IsUnread (H.texts shelf.old) name.now (H.faults shelf.old) (H.faults shelf.new))) }
     ensures texts { H.texts shelf.new ≡ H.texts shelf.old }
     ensures counts { Counts (H.faults shelf.old) (H.faults shelf.new) result }
@@ -89,6 +90,7 @@ pub fn take_system<H: Shelf>(
     shelf: &mut H,
 ) -> Result<Lts, Status>
     ensures stage { TakesStage (H.texts shelf.old) (Some name.now) (system_of which) (Rose (H.faults shelf.old) (H.faults shelf.new)) result }
+    ensures whole { IfErr result (ReadsToEnd (H.texts shelf.old) (Some name.now) which (H.left shelf.new)) }
     ensures limits { IfOk result KeepsLimits }
     ensures counts { Counts (H.faults shelf.old) (H.faults shelf.new) result }
     ensures texts { H.texts shelf.new ≡ H.texts shelf.old }
@@ -118,6 +120,7 @@ pub fn read_formula(alloc: Global, text: &str) -> Result<Parsed, Status>
 // The text that the name holds, or as much of it as is read.
 fn take_bytes<H: Shelf>(alloc: Global, name: &str, shelf: &mut H) -> Result<Vec<u8>, Status>
     ensures text { IfOk result (λ bytes. IfSome (H.texts shelf.old) (HasRead name.now bytes.items)) }
+    ensures rest { IfOk result (λ _. LeavesRest (H.texts shelf.old) (Some name.now) (H.left shelf.new)) }
     ensures cause { IfErr result (OrMemory (IsUnread (H.texts shelf.old) name.now (H.faults shelf.old) (H.faults shelf.new))) }
     ensures texts { H.texts shelf.new ≡ H.texts shelf.old }
     ensures counts { Counts (H.faults shelf.old) (H.faults shelf.new) result }
@@ -155,6 +158,7 @@ pub fn take_weights<H: Shelf>(
     shelf: &mut H,
 ) -> Result<Weights, Status>
     ensures stage { TakesStage (H.texts shelf.old) (named name.entry) (weighing_of (named name.entry)) (Rose (H.faults shelf.old) (H.faults shelf.new)) result }
+    ensures whole { IfErr result (ReadsToEnd (H.texts shelf.old) (named name.entry) Which.Weights (H.left shelf.new)) }
     ensures counts { Counts (H.faults shelf.old) (H.faults shelf.new) result }
     ensures texts { H.texts shelf.new ≡ H.texts shelf.old }
     ensures alone { named name.entry ≡ None → shelf.new ≡ shelf.old }

@@ -1,21 +1,25 @@
 -- A line gives one weighing or has one fault.
-use Rattle.std.proofs.Common.{◌≡◌, ◌∙◌, ℕ, List, [], ◌∷◌, ◌++◌, sym, ap, subst, arith}
-use Rattle.std.specs.Str.{IsUtf8}
-use Rattle.std.proofs.lemmas.Bool.{both_ways}
-use Rattle.spectro_io.specs.Lines.{first_line}
-use Rattle.spectro_io.specs.Numbers.{number_value}
+use Rattle.std.proofs.Common.{◌≡◌, ◌∙◌, ℕ, List, [], ◌∷◌, ◌++◌, length, refl, sym, ap, subst, inl, inr, arith}
+use Rattle.std.specs.Prelude.{◌⊎◌}
+use Rattle.std.proofs.lemmas.Bool.{both_ways, cases_Bool, cases_lt}
+use Rattle.spectro_io.specs.Blanks.{trimmed}
+use Rattle.spectro_io.specs.Numbers.{is_number, number_value}
 use Rattle.spectro_io.specs.QuotedLabels.{IsQuoted}
+use Rattle.spectro_io.specs.Tokens.{first_token, after_token}
+use Rattle.spectro_io.proofs.QuoteCases.{in_quotes-cases, label-cases}
 use Rattle.spectro_spec.specs.Weighing.{Weight, Weighing}
-use Rattle.spectro_weights.specs.Faults.{IsEntryFault, bad_line, bad_label, bad_weight, IsPlaceFault, repeated, too_many_labels, IsLineFault, not_text, no_entry, no_place, IsFaulty, too_long, other}
+use Rattle.spectro_weights.specs.Faults.{IsEntryFault, bad_line, bad_label, bad_weight, IsPlaceFault, repeated, too_many_labels, IsLineFault, no_entry, no_place}
 use Rattle.spectro_weights.specs.Setting.{is_set}
-use Rattle.spectro_weights.specs.WeightLines.{IsWeightLine, IsEntryLine}
-use Rattle.spectro_weights.specs.WeightTexts.{Before, HasPlace, Gives, skipped, entry, IsRead}
+use Rattle.spectro_weights.specs.WeightLines.{IsWeightLine, IsEntryLine, HasPlace, Gives}
 use Rattle.spectro_weights.specs.declared.error.WeightKind.{WeightKind}
-use Rattle.spectro_weights.proofs.WeightLines.{not_blank, digits-once, inside-once, entry-once}
+use Rattle.spectro_weights.specs.declared.error.WeightKind.TheVariants.{BadLine, BadLabel, BadWeight, Repeated, TooManyLabels}
+use Rattle.spectro_weights.proofs.WeightLines.{digits-once, entry-once, found-IsWeightLine, in_quotes_is, inside-once, token_is}
 
 -- a label that stands between the quotes of the line stands between them however its parts are found
-quoted_too : (line digits others inside found label : List ℕ) → IsWeightLine line digits inside → IsWeightLine line others found → IsQuoted inside label → IsQuoted found label
-quoted_too line digits others inside found label one two quoted = subst (λ inside. IsQuoted inside label) (inside-once line digits others inside found one two) quoted
+quoted_too : (line digits others inside found label : List ℕ) → IsWeightLine line digits inside → IsWeightLine line others found → IsQuoted inside label
+    → IsQuoted found label
+quoted_too line digits others inside found label one two quoted =
+    subst (λ inside. IsQuoted inside label) (inside-once line digits others inside found one two) quoted
 
 entry_fault-once : (line : List ℕ) (one two : WeightKind) → IsEntryFault line one → IsEntryFault line two → one ≡ two
 entry_fault-once line one two (bad_line none is) (bad_line none_too same) = is ∙ sym same
@@ -23,14 +27,18 @@ entry_fault-once line one two (bad_line none is) (bad_label digits inside form u
 entry_fault-once line one two (bad_line none is) (bad_weight digits inside label form quoted heavy same) = absurd (none digits inside form)
 entry_fault-once line one two (bad_label digits inside form unquoted is) (bad_line none same) = absurd (none digits inside form)
 entry_fault-once line one two (bad_label digits inside form unquoted is) (bad_label others found form_too unquoted_too same) = is ∙ sym same
-entry_fault-once line one two (bad_label digits inside form unquoted is) (bad_weight others found label form_too quoted heavy same) = absurd (unquoted label (quoted_too line others digits found inside label form_too form quoted))
+entry_fault-once line one two (bad_label digits inside form unquoted is) (bad_weight others found label form_too quoted heavy same) =
+    absurd (unquoted label (quoted_too line others digits found inside label form_too form quoted))
 entry_fault-once line one two (bad_weight digits inside label form quoted heavy is) (bad_line none same) = absurd (none digits inside form)
-entry_fault-once line one two (bad_weight digits inside label form quoted heavy is) (bad_label others found form_too unquoted same) = absurd (unquoted label (quoted_too line digits others inside found label form form_too quoted))
-entry_fault-once line one two (bad_weight digits inside label form quoted heavy is) (bad_weight others found label_too form_too quoted_too heavy_too same) = is ∙ sym same
+entry_fault-once line one two (bad_weight digits inside label form quoted heavy is) (bad_label others found form_too unquoted same) =
+    absurd (unquoted label (quoted_too line digits others inside found label form form_too quoted))
+entry_fault-once line one two (bad_weight digits inside label form quoted heavy is) (bad_weight others found label_too form_too quoted_too heavy_too same) =
+    is ∙ sym same
 
 entry-no_fault : (line : List ℕ) (found : Weight) (kind : WeightKind) → IsEntryLine line found → IsEntryFault line kind → ⊥
 entry-no_fault line found kind is (bad_line none same) = none is.digits is.inside is.form
-entry-no_fault line found kind is (bad_label digits inside form unquoted same) = unquoted found.label (quoted_too line is.digits digits is.inside inside found.label is.form form is.label)
+entry-no_fault line found kind is (bad_label digits inside form unquoted same) =
+    unquoted found.label (quoted_too line is.digits digits is.inside inside found.label is.form form is.label)
 entry-no_fault line found kind is (bad_weight digits inside label form quoted heavy same) =
     let value : number_value is.digits ≡ number_value digits = ap number_value (digits-once line is.digits digits is.inside inside is.form form) in
     omega (arith, is.light, is.weight, value, heavy)
@@ -45,41 +53,66 @@ place-no_fault : (weighing : Weighing) (found : Weight) (kind : WeightKind) → 
 place-no_fault weighing found kind place (repeated set same) = both_ways (is_set weighing found.label) place.new set
 place-no_fault weighing found kind place (too_many_labels new many same) = omega (arith, place.room, many)
 
-line_fault-once : (weighing : Weighing) (line : List ℕ) (one two : WeightKind) → IsLineFault weighing line one → IsLineFault weighing line two → one ≡ two
-line_fault-once weighing line one two (not_text none is) (not_text none_too same) = is ∙ sym same
-line_fault-once weighing line one two (not_text none is) (no_entry utf8 some fault) = absurd (none utf8)
-line_fault-once weighing line one two (not_text none is) (no_place found utf8 found_is fault) = absurd (none utf8)
-line_fault-once weighing line one two (no_entry utf8 some fault) (not_text none same) = absurd (none utf8)
-line_fault-once weighing line one two (no_entry utf8 some fault) (no_entry utf8_too some_too fault_too) = entry_fault-once line one two fault fault_too
-line_fault-once weighing line one two (no_entry utf8 some fault) (no_place found utf8_too is fault_too) = absurd (entry-no_fault line found one is fault)
-line_fault-once weighing line one two (no_place found utf8 is fault) (not_text none same) = absurd (none utf8)
-line_fault-once weighing line one two (no_place found utf8 is fault) (no_entry utf8_too some fault_too) = absurd (entry-no_fault line found two is fault_too)
-line_fault-once weighing line one two (no_place found utf8 is fault) (no_place found_too utf8_too same fault_too) =
-    place_fault-once weighing found_too one two (subst (λ found. IsPlaceFault weighing found one) (entry-once line found found_too is same) fault) fault_too
+-- a line of the right form
+labelled : (line inside : List ℕ) → IsWeightLine line (first_token line) inside
+    → ((found : Weight) × IsEntryLine line found) ⊎ ((kind : WeightKind) × IsEntryFault line kind)
+labelled line inside form =
+    elim (label-cases inside) [
+      | inl quoted ↦ elim (cases_lt 255 (number_value (first_token line))) [
+        | inl heavy ↦ inr (BadWeight, bad_weight (first_token line) inside quoted.0 form quoted.1 heavy refl)
+        | inr light ↦
+            inl (record { label = quoted.0; weight = number_value (first_token line) }, record { digits = first_token line; inside = inside; form = form; label = quoted.1; weight = refl; light = light })
+      ]
+      | inr none ↦ inr (BadLabel, bad_label (first_token line) inside form none refl)
+    ]
 
-gives-once : (weighing : Weighing) (line : List ℕ) (one two : Weighing) → Gives weighing line one → Gives weighing line two → one ≡ two
-gives-once weighing line one two (skipped blank is) (skipped blank_too same) = is ∙ sym same
-gives-once weighing line one two (skipped blank is) (entry found found_is place same) = absurd (not_blank line found_is.digits found_is.inside found_is.form blank)
-gives-once weighing line one two (entry found found_is place is) (skipped blank same) = absurd (not_blank line found_is.digits found_is.inside found_is.form blank)
-gives-once weighing line one two (entry found found_is place is) (entry found_too found_same place_too same) = is ∙ ap (λ found. weighing ++ found ∷ []) (entry-once line found found_too found_is found_same) ∙ sym same
+entry-cases : (line : List ℕ) → ((found : Weight) × IsEntryLine line found) ⊎ ((kind : WeightKind) × IsEntryFault line kind)
+entry-cases line =
+    elim (cases_Bool (is_number (first_token line))) [
+      | inl number ↦ elim (in_quotes-cases (trimmed (after_token line))) [
+        | inl quoted ↦ labelled line quoted.0 (found-IsWeightLine line quoted.0 number quoted.1)
+        | inr none ↦ inr (BadLine, bad_line (λ digits inside is. none inside (in_quotes_is line digits inside is)) refl)
+      ]
+      | inr not_so ↦
+          inr (BadLine, bad_line (λ digits inside is. both_ways (is_number (first_token line)) not_so (ap is_number (token_is line digits inside is) ∙ is.number)) refl)
+    ]
 
-gives-no_fault : (weighing : Weighing) (line : List ℕ) (next : Weighing) (kind : WeightKind) → IsUtf8 line → Gives weighing line next → IsLineFault weighing line kind → ⊥
-gives-no_fault weighing line next kind utf8 gives (not_text none same) = none utf8
-gives-no_fault weighing line next kind utf8 (skipped blank is) (no_entry utf8_too some fault) = some blank
-gives-no_fault weighing line next kind utf8 (skipped blank is) (no_place found utf8_too found_is fault) = not_blank line found_is.digits found_is.inside found_is.form blank
-gives-no_fault weighing line next kind utf8 (entry found found_is place is) (no_entry utf8_too some fault) = entry-no_fault line found kind found_is fault
-gives-no_fault weighing line next kind utf8 (entry found found_is place is) (no_place found_too utf8_too found_same fault) =
-    place-no_fault weighing found_too kind (subst (HasPlace weighing) (entry-once line found found_too found_is found_same) place) fault
+place-cases : (weighing : Weighing) (found : Weight) → HasPlace weighing found ⊎ ((kind : WeightKind) × IsPlaceFault weighing found kind)
+place-cases weighing found =
+    elim (cases_Bool (is_set weighing found.label)) [
+      | inl set ↦ inr (Repeated, repeated set refl)
+      | inr new ↦ elim (cases_lt (length weighing) 65536) [
+        | inl room ↦ inl (record { new = new; room = room })
+        | inr many ↦ inr (TooManyLabels, too_many_labels new many refl)
+      ]
+    ]
 
-pub faulty-once : (before : Before) (line : List ℕ) (one two : WeightKind) → IsFaulty before line one → IsFaulty before line two → one ≡ two
-faulty-once before line one two (too_long long is) (too_long long_too same) = is ∙ sym same
-faulty-once before line one two (too_long long is) (other fit fault) = absurd (fit long)
-faulty-once before line one two (other fit fault) (too_long long same) = absurd (fit long)
-faulty-once before line one two (other fit fault) (other fit_too fault_too) = line_fault-once before.weighing (first_line line) one two fault fault_too
+module _ (weighing : Weighing) (line : List ℕ) where
+  placed : (one two : Weight) → IsEntryLine line one → IsEntryLine line two → (P : Weight → Type 0) → P one → P two
+  placed one two first second P is = subst P (entry-once line one two first second) is
 
-pub read-once : (before : Before) (line : List ℕ) (one two : Weighing) → IsRead before line one → IsRead before line two → one ≡ two
-read-once before line one two first second = gives-once before.weighing (first_line line) one two first.given second.given
+  pub line_fault-once : (one two : WeightKind) → IsLineFault weighing line one → IsLineFault weighing line two → one ≡ two
+  line_fault-once one two (no_entry fault) (no_entry fault_too) = entry_fault-once line one two fault fault_too
+  line_fault-once one two (no_entry fault) (no_place found is fault_too) = absurd (entry-no_fault line found one is fault)
+  line_fault-once one two (no_place found is fault) (no_entry fault_too) = absurd (entry-no_fault line found two is fault_too)
+  line_fault-once one two (no_place found is fault) (no_place found_too same fault_too) =
+      place_fault-once weighing found_too one two (placed found found_too is same (λ found. IsPlaceFault weighing found one) fault) fault_too
 
-pub read-no_fault : (before : Before) (line : List ℕ) (next : Weighing) (kind : WeightKind) → IsRead before line next → IsFaulty before line kind → ⊥
-read-no_fault before line next kind read (too_long long same) = read.fit long
-read-no_fault before line next kind read (other fit fault) = gives-no_fault before.weighing (first_line line) next kind read.text read.given fault
+  pub gives-once : (one two : Weighing) → Gives weighing line one → Gives weighing line two → one ≡ two
+  gives-once one two first second =
+      first.list ∙ ap (λ found. weighing ++ found ∷ []) (entry-once line first.entry second.entry first.is_entry second.is_entry) ∙ sym second.list
+
+  pub gives-no_fault : (next : Weighing) (kind : WeightKind) → Gives weighing line next → IsLineFault weighing line kind → ⊥
+  gives-no_fault next kind gives (no_entry fault) = entry-no_fault line gives.entry kind gives.is_entry fault
+  gives-no_fault next kind gives (no_place found is fault) =
+      place-no_fault weighing found kind (placed gives.entry found gives.is_entry is (HasPlace weighing) gives.place) fault
+
+  pub gives-cases : ((next : Weighing) × Gives weighing line next) ⊎ ((kind : WeightKind) × IsLineFault weighing line kind)
+  gives-cases =
+      elim (entry-cases line) [
+        | inl found ↦ elim (place-cases weighing found.0) [
+          | inl place ↦ inl (weighing ++ found.0 ∷ [], record { entry = found.0; is_entry = found.1; place = place; list = refl })
+          | inr fault ↦ inr (fault.0, no_place found.0 found.1 fault.1)
+        ]
+        | inr fault ↦ inr (fault.0, no_entry fault.1)
+      ]

@@ -14,7 +14,7 @@ use Rattle.spectro_io.proofs.Blanks.{trims, trimmed-quoted}
 use Rattle.spectro_io.proofs.ClosingQuotes.{in_quotes-once}
 use Rattle.spectro_io.proofs.Decimals.{number_of-number}
 use Rattle.spectro_io.proofs.QuotedLabels.{label-once}
-use Rattle.spectro_io.proofs.Tokens.{HasToken, parts_at_token, first_token-word, after_token-word, number-IsWord, word-not_blank}
+use Rattle.spectro_io.proofs.Tokens.{HasToken, parts_at_token, first_token-word, after_token-word, number-IsWord}
 use Rattle.spectro_io.proofs.Utf8Cuts.{utf8_before, utf8_behind}
 use Rattle.spectro_spec.specs.Weighing.{Weight}
 use Rattle.spectro_weights.specs.WeightLines.{IsWeightLine, IsEntryLine}
@@ -45,9 +45,6 @@ module _ (line digits inside : List ℕ) (is : IsWeightLine line digits inside) 
 
   pub in_quotes_is : IsInQuotes (trimmed (after_token line)) inside
   in_quotes_is = record { whole = ap trimmed after_is ∙ trimmed-quoted is.gap inside is.back is.blanks_between is.blanks_behind; closed = is.closed }
-
-  pub not_blank : ¬ AreBlanks line
-  not_blank = word-not_blank line is.front digits field whole is.blanks_before (number-IsWord digits is.number)
 
   pub inside-utf8 : IsUtf8 line → IsUtf8 inside
   inside-utf8 utf8 =

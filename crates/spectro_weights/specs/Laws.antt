@@ -2,8 +2,7 @@
 use Rattle.std.specs.Prelude.{ℕ, ◌≡◌, ◌≤◌, ◌⊎◌, List, length, take}
 use Rattle.spectro_io.specs.Limits.{read_limit}
 use Rattle.spectro_spec.specs.Weighing.{Weighing}
-use Rattle.spectro_weights.specs.WeightTexts.{IsWeightText}
-use Rattle.spectro_weights.specs.Faults.{IsFirstFault}
+use Rattle.spectro_weights.specs.WeightTexts.{IsWeightText, IsFirstFault}
 use Rattle.spectro_weights.specs.declared.error.WeightFault.{WeightFault}
 
 -- a text is of at most one weighing

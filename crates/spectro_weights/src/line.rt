@@ -1,11 +1,10 @@
-ghost use Rattle.std.specs.Prelude.{◌↔◌, ℕ, List, IsTrue, IfOk, MatchOption, MatchResult};
-ghost use Rattle.spectro_io.specs.Blanks.{AreBlanks};
+ghost use Rattle.std.specs.Prelude.{ℕ, List, IfOk, MatchOption, MatchResult};
 ghost use Rattle.spectro_weights.specs.WeightLines.{IsWeightLine, IsEntryLine};
 ghost use Rattle.spectro_weights.specs.LineReading.{ArePartsOf, weight_in};
 ghost use Rattle.spectro_weights.specs.Faults.{IsEntryFault};
 
 use crate::WeightKind;
-use spectro_io::{in_quotes, number, token_at, trim, trim_start, unquoted};
+use spectro_io::{in_quotes, number, token_at, trim, unquoted};
 use std::alloc::{AllocError, Global};
 
 /// A label and its weight, as a line has them.
@@ -20,13 +19,6 @@ pub(crate) struct Entry {
 struct Parts<'a> {
     number: u64,
     inside: &'a str,
-}
-
-/// Whether the line is of blanks alone.
-pub(crate) fn is_blank(line: &str) -> bool
-    ensures { IsTrue result ↔ AreBlanks line.now }
-{
-    trim_start(line.as_bytes()).is_empty()
 }
 
 // The parts of a line that is of the form of an entry.

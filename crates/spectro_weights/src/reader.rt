@@ -1,63 +1,68 @@
-ghost use Rattle.std.specs.Prelude.{IfOk, IfErr, MatchOption, MatchResult};
-ghost use Rattle.spectro_weights.specs.Faults.{IsPlaceFault, IsRefused};
-ghost use Rattle.spectro_weights.specs.LineReading.{IsLeft, IsNumberedFault, IsPlaced, IsTaken, weight_in};
-ghost use Rattle.spectro_weights.specs.WeightTexts.{IsWeightText};
+ghost use Rattle.std.specs.Prelude.{IfOk, IfErr, MatchOption};
+ghost use Rattle.spectro_weights.specs.Faults.{IsPlaceFault};
+ghost use Rattle.spectro_weights.specs.LineReading.{IsPlaced, weight_in};
+ghost use Rattle.spectro_weights.specs.WeightTexts.{IsRefused, IsWeightText, weight_form};
 
-use crate::line::{Entry, entry_in, is_blank};
+use crate::line::{Entry, entry_in};
 use crate::{MAX_LABELS, WeightError, WeightFault, WeightKind, Weights};
-use spectro_io::{NumberedLine, NumberedLines};
+use spectro_lines::{Grammar, LineError, LineFault, read};
 use std::alloc::{AllocError, Global};
+
+/// In bytes, line ends counted.
+const MAX_TEXT: usize = 67_108_864;
 
 /// The weights of which the bytes are a text.
 pub fn read_weights(alloc: Global, bytes: &[u8]) -> Result<Weights, WeightError>
     ensures ok { IfOk result (IsWeightText bytes.now) }
     ensures refused { IfErr result (IsRefused bytes.now) }
 {
-    let mut weights = Weights::new(alloc);
-    let mut lines = NumberedLines::new(bytes);
-    while let Some(line) = lines.next_line() {
-        take_line(alloc, &mut weights, line)?;
-    }
-    Ok(weights)
-}
-
-// Takes the line behind the others.
-fn take_line(
-    alloc: Global,
-    weights: &mut Weights,
-    line: NumberedLine<'_>,
-) -> Result<(), WeightError>
-    ensures { MatchResult result (λ _. IsTaken weights.old line.entry weights.new) (IsLeft weights.old line.entry) }
-{
-    match read_line(alloc, weights, line)? {
-        None => Ok(()),
-        Some(kind) => Err(WeightError::Text(WeightFault {
-            line: line.number,
-            kind,
+    match read::<Weights>(alloc, bytes) {
+        Ok(weights) => Ok(weights),
+        Err(LineError::Text(fault)) => Err(WeightError::Text(WeightFault {
+            line: fault.line,
+            kind: fault.kind,
         })),
+        Err(LineError::OutOfMemory) => Err(WeightError::OutOfMemory),
     }
 }
 
-// Reads the line behind the others. Answers its fault, if it has one.
-fn read_line(
-    alloc: Global,
-    weights: &mut Weights,
-    line: NumberedLine<'_>,
-) -> Result<Option<WeightKind>, AllocError>
-    ensures { IfOk result (λ fault. MatchOption fault (IsTaken weights.old line.entry weights.new) (IsNumberedFault weights.old line.entry)) }
-{
-    if line.is_too_long {
-        return Ok(Some(WeightKind::TooLong));
+impl Grammar for Weights {
+    type Value = Weights;
+
+    type Kind = WeightKind;
+
+    ghost form = { weight_form };
+
+    fn start(alloc: Global) -> Weights {
+        Weights::new(alloc)
     }
-    let Ok(text) = str::from_utf8(line.line) else {
-        return Ok(Some(WeightKind::NotText));
-    };
-    if is_blank(text) {
-        return Ok(None);
+
+    fn take_line(
+        &mut self,
+        alloc: Global,
+        line: &str,
+        _number: u64,
+    ) -> Result<Option<WeightKind>, AllocError> {
+        match entry_in(alloc, line)? {
+            Ok(entry) => place(self, entry),
+            Err(kind) => Ok(Some(kind)),
+        }
     }
-    match entry_in(alloc, text)? {
-        Ok(entry) => place(weights, entry),
-        Err(kind) => Ok(Some(kind)),
+
+    fn finish(self, _lines: u64) -> Result<Result<Weights, LineFault<WeightKind>>, AllocError> {
+        Ok(Ok(self))
+    }
+
+    fn limit() -> usize {
+        MAX_TEXT
+    }
+
+    fn too_long() -> WeightKind {
+        WeightKind::TooLong
+    }
+
+    fn not_text() -> WeightKind {
+        WeightKind::NotText
     }
 }
 

@@ -23,5 +23,6 @@ eval_text truth parts e = truth_line truth ++ price_line parts e
 -- the system, the formula, the weights, the truth, and then the two lines
 abbrev pub eval_outcome : Word → Option (List ℕ) → Option Word → Option (List ℕ) → Outcome
 eval_outcome word file weights weights_file =
-    After (system_of Left file) (λ system. After (formula_of word) (λ formula. After (weighing_of weights weights_file) (λ weighing. After (truth_of system formula) (λ truth.
+    After (system_of Left file)
+    (λ system. After (formula_of word) (λ formula. After (weighing_of weights weights_file) (λ weighing. After (truth_of system formula) (λ truth.
     Writes (eval_text truth (parts_shown weights) (price weighing formula))))))

@@ -17,4 +17,5 @@ priced_text printed parts e = printed ++ codes "\n" ++ price_line parts e
 -- the formula, then the weights, and then the two lines
 abbrev pub price_outcome : Word → Option Word → Option (List ℕ) → Outcome
 price_outcome word weights file =
-    After (formula_of word) (λ formula. After (weighing_of weights file) (λ weighing. Writes (priced_text (formula_text formula) (parts_shown weights) (price weighing formula))))
+    After (formula_of word)
+    (λ formula. After (weighing_of weights file) (λ weighing. Writes (priced_text (formula_text formula) (parts_shown weights) (price weighing formula))))

@@ -31,4 +31,5 @@ size_line pairs positions = codes "pairs " ++ decimal pairs ++ codes ", position
 -- the left system, the right one, the pairs of their comparison, and then the line
 abbrev pub size_outcome : Option (List ℕ) → Option (List ℕ) → ℕ → Outcome
 size_outcome left right limit =
-    After (system_of Left left) (λ first. After (system_of Right right) (λ second. After (pairs_of first second limit) (λ pairs. Writes (size_line (length pairs) (game.size pairs)))))
+    After (system_of Left left)
+    (λ first. After (system_of Right right) (λ second. After (pairs_of first second limit) (λ pairs. Writes (size_line (length pairs) (game.size pairs)))))

@@ -1,4 +1,4 @@
-ghost use Rattle.std.specs.Prelude.{◌≡◌, ◌↔◌, ◌<◌, ◌≤◌, length, IsTrue, IfOk};
+ghost use Rattle.std.specs.Prelude.{◌≡◌, ◌↔◌, ◌<◌, ◌≤◌, length, IsTrue, IfOk, Some, IfErr};
 ghost use Rattle.spectro_spec.specs.Formula.{Satisfies};
 ghost use Rattle.spectro_spec.specs.Pricing.{price};
 ghost use Rattle.spectro_energy.specs.Energy.{price_of};
@@ -7,6 +7,7 @@ ghost use Rattle.spectro_io.specs.Faults.{Rose};
 ghost use Rattle.spectro_words.specs.Words.{named};
 ghost use Rattle.spectro_run.specs.Commands.Eval.{eval_text};
 ghost use Rattle.spectro_run.specs.Notation.{truth_line};
+ghost use Rattle.spectro_run.specs.Reading.{JudgesWhole};
 ghost use Rattle.spectro_run.specs.Stops.{Counts, IsPrepared};
 ghost use Rattle.spectro_run.specs.Weighted.{parts_shown};
 ghost use Rattle.spectro_words.specs.Commands as words;
@@ -82,6 +83,7 @@ pub fn eval<H: Shelf>(
     shelf: &mut H,
 ) -> Result<Evaluated, Status>
     ensures prepared { IsPrepared (H.texts shelf.old) (words.eval formula.now file.now (named weights.entry)) (λ evaluated. eval_text evaluated.truth evaluated.parts (price_of evaluated.price.parts)) (Rose (H.faults shelf.old) (H.faults shelf.new)) result }
+    ensures whole { IfErr result (JudgesWhole (H.texts shelf.old) (Some (words.eval formula.now file.now (named weights.entry))) (H.left shelf.new)) }
     ensures counts { Counts (H.faults shelf.old) (H.faults shelf.new) result }
     ensures texts { H.texts shelf.new ≡ H.texts shelf.old }
 {

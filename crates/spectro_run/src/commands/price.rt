@@ -1,10 +1,11 @@
-ghost use Rattle.std.specs.Prelude.{◌≡◌, ◌<◌, ◌≤◌, length, None, IfOk};
+ghost use Rattle.std.specs.Prelude.{◌≡◌, ◌<◌, ◌≤◌, length, None, IfOk, Some, IfErr};
 ghost use Rattle.spectro_energy.specs.Energy.{price_of};
 ghost use Rattle.spectro_hml.specs.Sheets.{unfolded};
 ghost use Rattle.spectro_hmltext.specs.Printed.{formula_text};
 ghost use Rattle.spectro_io.specs.Faults.{Rose};
 ghost use Rattle.spectro_words.specs.Words.{named};
 ghost use Rattle.spectro_run.specs.Commands.Price.{priced_text};
+ghost use Rattle.spectro_run.specs.Reading.{JudgesWhole};
 ghost use Rattle.spectro_run.specs.Stops.{Counts, IsPrepared};
 ghost use Rattle.spectro_words.specs.Commands as words;
 
@@ -62,6 +63,7 @@ pub fn price<H: Shelf>(
     shelf: &mut H,
 ) -> Result<Priced, Status>
     ensures prepared { IsPrepared (H.texts shelf.old) (words.price formula.now (named weights.entry)) (λ priced. priced_text priced.text priced.parts (price_of priced.price.parts)) (Rose (H.faults shelf.old) (H.faults shelf.new)) result }
+    ensures whole { IfErr result (JudgesWhole (H.texts shelf.old) (Some (words.price formula.now (named weights.entry))) (H.left shelf.new)) }
     ensures counts { Counts (H.faults shelf.old) (H.faults shelf.new) result }
     ensures texts { H.texts shelf.new ≡ H.texts shelf.old }
     ensures alone { named weights.entry ≡ None → shelf.new ≡ shelf.old }

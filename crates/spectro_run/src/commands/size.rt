@@ -1,8 +1,9 @@
-ghost use Rattle.std.specs.Prelude.{◌≡◌, ◌+◌, ◌≤◌, length, IfOk, IfErr};
+ghost use Rattle.std.specs.Prelude.{◌≡◌, ◌+◌, ◌≤◌, length, IfOk, IfErr, Some};
 ghost use Rattle.spectro_aut.specs.RoundTrip.{KeepsLimits};
 ghost use Rattle.spectro_io.specs.Faults.{Rose};
 ghost use Rattle.spectro_run.specs.Commands.Size.{pairs_of, size_line};
 ghost use Rattle.spectro_run.specs.Measures.{IsMeasured};
+ghost use Rattle.spectro_run.specs.Reading.{JudgesWhole};
 ghost use Rattle.spectro_run.specs.Stops.{Counts, IsPrepared, Stops};
 ghost use Rattle.spectro_words.specs.Commands as words;
 ghost use Rattle.spectro_words.specs.Limits.{IsLimit};
@@ -71,6 +72,7 @@ pub fn size<H: Shelf>(
 ) -> Result<Extent, Status>
     requires limit { IsLimit limit }
     ensures prepared { IsPrepared (H.texts shelf.old) (words.size left.now right.now limit) (λ extent. size_line extent.pairs extent.positions) (Rose (H.faults shelf.old) (H.faults shelf.new)) result }
+    ensures whole { IfErr result (JudgesWhole (H.texts shelf.old) (Some (words.size left.now right.now limit)) (H.left shelf.new)) }
     ensures counts { Counts (H.faults shelf.old) (H.faults shelf.new) result }
     ensures texts { H.texts shelf.new ≡ H.texts shelf.old }
 {

@@ -1,4 +1,4 @@
-use Rattle.spectro_aut.proofs.LongTexts.{length-text}
+use Rattle.spectro_aut.proofs.Texts.{length-text}
 use Rattle.spectro_aut.proofs.laws.texts_are_short.Goals as goal
 
 pub returns : goal.returns

@@ -11,4 +11,6 @@ index-requires c =
 
 pub returns : goal.returns
 returns c =
-    ap (λ (energy : Energy). price_of energy.parts) c.index.ensures ∙ price_at_node c.in_ok-prices.prices.items c.args.sheet.now c.args.weights.now c.args.node c.index.result.now c.in_ok-prices.ensures.value c.requires.node
+    ap (λ (energy : Energy). price_of energy.parts) c.index.ensures
+    ∙ price_at_node c.in_ok-prices.prices.items c.args.sheet.now c.args.weights.now c.args.node c.index.result.now c.in_ok-prices.ensures.value
+    c.requires.node

@@ -1,5 +1,5 @@
 use Rattle.std.proofs.Common.{refl, subst, inr}
-use Rattle.spectro_aut.specs.Faults.{IsRefused}
+use Rattle.spectro_aut.specs.Texts.{IsRefused}
 use Rattle.spectro_run.proofs.texts.read_system.Goals as goal
 
 pub returns-in-Err-Text-clause-refused : goal.returns-in-Err-Text-clause-refused

@@ -1,4 +1,4 @@
-use Rattle.spectro_weights.proofs.LongTexts.{fault_of_read_front}
+use Rattle.spectro_weights.proofs.Texts.{fault_of_read_front}
 use Rattle.spectro_weights.proofs.laws.faults_of_fronts_stay.Goals as goal
 
 pub returns : goal.returns

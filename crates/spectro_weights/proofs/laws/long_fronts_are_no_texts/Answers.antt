@@ -1,4 +1,4 @@
-use Rattle.spectro_weights.proofs.LongTexts.{read_front_no_text}
+use Rattle.spectro_weights.proofs.Texts.{read_front_no_text}
 use Rattle.spectro_weights.proofs.laws.long_fronts_are_no_texts.Goals as goal
 
 pub returns : goal.returns

@@ -46,8 +46,10 @@ returns-in_err-weights-clause-prepared g c =
     let rises = rose-wider _ _ _ _ c.in_ok-lts.ensures.counts.later (omega arith) in
     rw (p.1, p.2) (record {
       held = files_held file.held None weights.held;
-      are = are-held (g.H.Source.texts c.args.shelf.now) (eval c.args.formula.now c.args.file.now (named c.args.weights)) file.held None weights.held file.is refl weights.is;
-      ends = stops-behind _ _ c.in_ok-lts.lts _ file.ends (λ failed. failed) (stops-behind _ _ parsed.formula _ parsed.is_text rises (stops-first _ _ _ (λ failed. failed) weights.ends));
+      are = are-held (g.H.Source.texts c.args.shelf.now)
+          (eval c.args.formula.now c.args.file.now (named c.args.weights)) file.held None weights.held file.is refl weights.is;
+      ends = stops-behind _ _ c.in_ok-lts.lts _ file.ends (λ failed. failed)
+          (stops-behind _ _ parsed.formula _ parsed.is_text rises (stops-first _ _ _ (λ failed. failed) weights.ends));
     })
 
 pub returns-in_err-evaluate-clause-prepared : goal.returns-in_err-evaluate-clause-prepared
@@ -57,7 +59,8 @@ returns-in_err-evaluate-clause-prepared g c =
     let weights = rw c.in_ok-lts.ensures.texts at c.in_ok-weights.ensures.stage in
     rw p.1 (record {
       held = files_held file.held None weights.held;
-      are = are-held (g.H.Source.texts c.args.shelf.now) (eval c.args.formula.now c.args.file.now (named c.args.weights)) file.held None weights.held file.is refl weights.is;
+      are = are-held (g.H.Source.texts c.args.shelf.now)
+          (eval c.args.formula.now c.args.file.now (named c.args.weights)) file.held None weights.held file.is refl weights.is;
       ends = no_memory p.2;
     })
 
@@ -69,12 +72,16 @@ returns-clause-prepared g c =
     let file = c.in_ok-lts.ensures.stage in
     let weights = rw c.in_ok-lts.ensures.texts at c.in_ok-weights.ensures.stage in
     let truth = subst (λ formula. IsTrue found.truth ↔ Satisfies system system.initial formula) parsed.unfolds c.in_ok-evaluate.ensures.truth in
-    let costs : price_of found.price.parts ≡ price c.in_ok-weights.weights parsed.formula = c.in_ok-evaluate.ensures.price ∙ ap (price c.in_ok-weights.weights) parsed.unfolds in
+    let costs : price_of found.price.parts ≡ price c.in_ok-weights.weights parsed.formula = c.in_ok-evaluate.ensures.price
+        ∙ ap (price c.in_ok-weights.weights) parsed.unfolds in
     let shown = c.in_ok-evaluate.ensures.parts ∙ c.parts_shown-parts.ensures in
     record {
       held = files_held file.held None weights.held;
-      are = are-held (g.H.Source.texts c.args.shelf.now) (eval c.args.formula.now c.args.file.now (named c.args.weights)) file.held None weights.held file.is refl weights.is;
-      ends = given system file.ends (given parsed.formula parsed.is_text (given c.in_ok-weights.weights weights.ends (given found.truth truth (refl, λ i. eval_text found.truth (shown i) (costs i)))));
+      are = are-held (g.H.Source.texts c.args.shelf.now)
+          (eval c.args.formula.now c.args.file.now (named c.args.weights)) file.held None weights.held file.is refl weights.is;
+      ends = given system file.ends
+          (given parsed.formula parsed.is_text
+          (given c.in_ok-weights.weights weights.ends (given found.truth truth (refl, λ i. eval_text found.truth (shown i) (costs i)))));
     }
 
 pub returns-clause-counts : goal.returns-clause-counts

@@ -32,7 +32,8 @@ returns-in_err-weights-clause-prepared g c =
     rw (p.1, p.2) (record {
       held = files_held None None weights.held;
       are = are-held (g.H.Source.texts c.args.shelf.now) (price c.args.formula.now (named c.args.weights)) None None weights.held refl refl weights.is;
-      ends = stops-behind _ _ c.in_ok-parsed.ensures.ok.formula _ c.in_ok-parsed.ensures.ok.is_text (λ failed. failed) (stops-first _ _ _ (λ failed. failed) weights.ends);
+      ends = stops-behind _ _ c.in_ok-parsed.ensures.ok.formula _ c.in_ok-parsed.ensures.ok.is_text (λ failed. failed)
+          (stops-first _ _ _ (λ failed. failed) weights.ends);
     })
 
 pub returns-in_err-price-clause-prepared : goal.returns-in_err-price-clause-prepared
@@ -66,9 +67,11 @@ returns-clause-prepared g c =
     let parsed = c.in_ok-parsed.ensures.ok in
     let weights = c.in_ok-weights.ensures.stage in
     let text : c.in_ok-text.text ≡ formula_text parsed.formula = c.in_ok-text.ensures ∙ ap formula_text parsed.unfolds in
-    let costs : price_of c.in_ok-price.price.parts ≡ spec.price c.in_ok-weights.weights parsed.formula = c.in_ok-price.ensures ∙ ap (spec.price c.in_ok-weights.weights) parsed.unfolds in
+    let costs : price_of c.in_ok-price.price.parts ≡ spec.price c.in_ok-weights.weights parsed.formula = c.in_ok-price.ensures
+        ∙ ap (spec.price c.in_ok-weights.weights) parsed.unfolds in
     record {
       held = files_held None None weights.held;
       are = are-held (g.H.Source.texts c.args.shelf.now) (price c.args.formula.now (named c.args.weights)) None None weights.held refl refl weights.is;
-      ends = given parsed.formula parsed.is_text (given c.in_ok-weights.weights weights.ends (refl, λ i. priced_text (text i) (c.parts_shown-parts.ensures i) (costs i)));
+      ends = given parsed.formula parsed.is_text
+          (given c.in_ok-weights.weights weights.ends (refl, λ i. priced_text (text i) (c.parts_shown-parts.ensures i) (costs i)));
     }

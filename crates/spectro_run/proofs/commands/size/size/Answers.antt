@@ -29,7 +29,8 @@ returns-in_err-right-clause-prepared g c =
     rw (p.1, p.2) (record {
       held = files_held first.held second.held None;
       are = are-held told (size c.args.left.now c.args.right.now c.args.limit) first.held second.held None first.is second.is refl;
-      ends = stops-behind _ _ c.in_ok-left.left _ first.ends (rose-wider _ _ _ _ c.in_ok-left.ensures.counts.later (omega arith)) (stops-first _ _ _ (λ failed. failed) second.ends);
+      ends = stops-behind _ _ c.in_ok-left.left _ first.ends (rose-wider _ _ _ _ c.in_ok-left.ensures.counts.later (omega arith))
+          (stops-first _ _ _ (λ failed. failed) second.ends);
     })
 
 pub returns-clause-prepared : goal.returns-clause-prepared
@@ -42,8 +43,10 @@ returns-clause-prepared g c =
       are = are-held told (size c.args.left.now c.args.right.now c.args.limit) first.held second.held None first.is second.is refl;
       ends =
           ends-as c.extent_of.result c.extent_of.ensures.ok c.extent_of.ensures.stopped
-          (λ extent is. given c.in_ok-left.left first.ends (given c.in_ok-right.right second.ends (given is.pairs is.are (refl, λ i. size_line (is.counted i) (is.sized i)))))
-          (λ status stopped. stops-behind _ _ c.in_ok-left.left status first.ends (λ failed. failed) (stops-behind _ _ c.in_ok-right.right status second.ends (λ failed. failed) (stops-first _ _ status (λ failed. absurd failed) stopped)));
+          (λ extent is. given c.in_ok-left.left first.ends
+              (given c.in_ok-right.right second.ends (given is.pairs is.are (refl, λ i. size_line (is.counted i) (is.sized i)))))
+          (λ status stopped. stops-behind _ _ c.in_ok-left.left status first.ends (λ failed. failed)
+              (stops-behind _ _ c.in_ok-right.right status second.ends (λ failed. failed) (stops-first _ _ status (λ failed. absurd failed) stopped)));
     }
 
 pub returns-clause-counts : goal.returns-clause-counts

@@ -1,0 +1,9 @@
+pub mod HeldLines
+pub mod Splits
+pub mod LineJudgements
+pub mod Taking
+pub mod Rooms
+pub mod Faults
+pub mod LongTexts
+pub mod Settled
+pub mod Outcomes

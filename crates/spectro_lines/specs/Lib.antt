@@ -1,0 +1,4 @@
+pub mod Form
+pub mod Texts
+pub mod LineReading
+pub mod Feeding
