@@ -30,7 +30,8 @@ some_covers-prices_of e [] = refl
 some_covers-prices_of e (f ∷ fs) = ap (λ b. is_at_most (price_of f.parts) e || b) (some_covers-prices_of e fs)
 
 -- an answer that tells whether some energy is at most e
-pub covers_by : (answer : Bool) (e : Price) (fs : List Energy) → answer ≡ list_any (λ f. is_at_most (price_of f.parts) e) fs → IsTrue answer ↔ Covers (prices_of fs) e
+pub covers_by : (answer : Bool) (e : Price) (fs : List Energy) → answer ≡ list_any (λ f. is_at_most (price_of f.parts) e) fs
+    → IsTrue answer ↔ Covers (prices_of fs) e
 covers_by answer e fs told = Decides-at answer (some_covers (prices_of fs) e) (told ∙ some_covers-prices_of e fs) (some_covers-Decides (prices_of fs) e)
 
 -- the prices of the energies that e is not at most
@@ -45,7 +46,8 @@ not_above-prices_of e (f ∷ fs) = by (is_at_most e (price_of f.parts)) (not_abo
     by false rest = ap (λ ps. price_of f.parts ∷ ps) rest
 
 -- where e is put before the first that it comes before, its price is put in its place
-pub placed_price-prices_of : (e : Energy) (fs : List Energy) → prices_of (insert fs (position_or_len (comes_first e) fs) e) ≡ placed_price (price_of e.parts) (prices_of fs)
+pub placed_price-prices_of : (e : Energy) (fs : List Energy)
+    → prices_of (insert fs (position_or_len (comes_first e) fs) e) ≡ placed_price (price_of e.parts) (prices_of fs)
 placed_price-prices_of e [] = refl
 placed_price-prices_of e (f ∷ fs) = by (comes_first e f) (placed_price-prices_of e fs)
   where
@@ -53,23 +55,28 @@ placed_price-prices_of e (f ∷ fs) = by (comes_first e f) (placed_price-prices_
     at first = cond (not first) (1 + position_or_len (comes_first e) fs) 0
 
     by : (first : Bool) → prices_of (insert fs (position_or_len (comes_first e) fs) e) ≡ placed_price (price_of e.parts) (prices_of fs)
-        → prices_of (insert (f ∷ fs) (at first) e) ≡ cond first (price_of e.parts ∷ price_of f.parts ∷ prices_of fs) (price_of f.parts ∷ placed_price (price_of e.parts) (prices_of fs))
+        → prices_of (insert (f ∷ fs) (at first) e) ≡ cond first (price_of e.parts ∷ price_of f.parts ∷ prices_of fs)
+        (price_of f.parts ∷ placed_price (price_of e.parts) (prices_of fs))
     by true rest = refl
     by false rest = let on : 1 + position_or_len (comes_first e) fs ≡ suc (position_or_len (comes_first e) fs) = omega arith in
         ap (λ n. prices_of (insert (f ∷ fs) n e)) on ∙ ap (λ ps. price_of f.parts ∷ ps) rest
 
 -- what inserting leaves, by whether e was covered
 pub inserted-covered : (e : Price) (es : List Price) → Covers es e → es ≡ inserted e es
-inserted-covered e es covered = by_test (λ b. es ≡ cond b es (placed_price e (not_above e es))) (some_covers es e) (some_covers-Decides es e) (λ _. refl) (λ apart. absurd (apart covered))
+inserted-covered e es covered = by_test (λ b. es ≡ cond b es (placed_price e (not_above e es))) (some_covers es e) (some_covers-Decides es e) (λ _. refl)
+    (λ apart. absurd (apart covered))
 
 pub inserted-new : (e : Price) (es : List Price) → ¬ Covers es e → placed_price e (not_above e es) ≡ inserted e es
-inserted-new e es apart = by_test (λ b. placed_price e (not_above e es) ≡ cond b es (placed_price e (not_above e es))) (some_covers es e) (some_covers-Decides es e) (λ covered. absurd (apart covered)) (λ _. refl)
+inserted-new e es apart = by_test (λ b. placed_price e (not_above e es) ≡ cond b es (placed_price e (not_above e es))) (some_covers es e)
+    (some_covers-Decides es e) (λ covered. absurd (apart covered)) (λ _. refl)
 
 -- what is left where e is put at its place among the energies that it is not at most
 pub inserted-prices_of : (e : Energy) (fs gs : List Energy) (es : List Price) (place : ℕ) → ¬ Covers es (price_of e.parts)
-    → prices_of fs ≡ not_above (price_of e.parts) es → place ≡ position_or_len (comes_first e) fs → gs ≡ insert fs place e → prices_of gs ≡ inserted (price_of e.parts) es
+    → prices_of fs ≡ not_above (price_of e.parts) es → place ≡ position_or_len (comes_first e) fs → gs ≡ insert fs place e
+    → prices_of gs ≡ inserted (price_of e.parts) es
 inserted-prices_of e fs gs es place apart kept at now =
-    ap prices_of now ∙ ap (λ n. prices_of (insert fs n e)) at ∙ placed_price-prices_of e fs ∙ ap (placed_price (price_of e.parts)) kept ∙ inserted-new (price_of e.parts) es apart
+    ap prices_of now ∙ ap (λ n. prices_of (insert fs n e)) at ∙ placed_price-prices_of e fs ∙ ap (placed_price (price_of e.parts)) kept
+    ∙ inserted-new (price_of e.parts) es apart
 
 -- what is inserted into an antichain leaves one
 pub inserted-antichain : (e : Price) (es fs : List Price) → fs ≡ inserted e es → Rises es × AreApart es → Rises fs × AreApart fs
@@ -80,5 +87,7 @@ told_place : (k n : ℕ) → k ≤ n → (below : Bool) → Decides below (k < n
 told_place k n low true told = refl
 told_place k n low false told = omega (arith, not_from_Decides false told refl)
 
-pub place-from_position : (p : Energy → Bool) (fs : List Energy) → unwrap_or (cond (ltb (position_or_len p fs) (length fs)) (Some (position_or_len p fs)) None) (length fs) ≡ position_or_len p fs
-place-from_position p fs = told_place (position_or_len p fs) (length fs) (prefix_len-le-length (λ f. not (p f)) fs) (ltb (position_or_len p fs) (length fs)) (Decides-ltb (position_or_len p fs) (length fs))
+pub place-from_position : (p : Energy → Bool) (fs : List Energy)
+    → unwrap_or (cond (ltb (position_or_len p fs) (length fs)) (Some (position_or_len p fs)) None) (length fs) ≡ position_or_len p fs
+place-from_position p fs = told_place (position_or_len p fs) (length fs) (prefix_len-le-length (λ f. not (p f)) fs) (ltb (position_or_len p fs) (length fs))
+    (Decides-ltb (position_or_len p fs) (length fs))

@@ -54,7 +54,8 @@ before_last_sound byte text front e = turned (after (byte ∷ []) (reverse text)
 
 pub before_last_complete : (byte : ℕ) (front : List ℕ) → before_last byte (front ++ byte ∷ []) ≡ Some front
 before_last_complete byte front =
-    ap (λ l. option_map reverse (after (byte ∷ []) l)) (reverse-append front (byte ∷ [])) ∙ ap (option_map reverse) (after_complete (byte ∷ []) (reverse front)) ∙ ap Some (reverse-reverse front)
+    ap (λ l. option_map reverse (after (byte ∷ []) l)) (reverse-append front (byte ∷ []))
+    ∙ ap (option_map reverse) (after_complete (byte ∷ []) (reverse front)) ∙ ap Some (reverse-reverse front)
 
 -- none of the bytes is this one
 abbrev pub Lacks : List ℕ → ℕ → Type 0
@@ -70,9 +71,11 @@ Lacks-Contains text byte lacks found = both_ways _ lacks (list_any_at (λ other.
 pub Lacks-from_no_Contains : (text : List ℕ) (byte : ℕ) → (Contains text byte → ⊥) → Lacks text byte
 Lacks-from_no_Contains [] byte none = refl
 Lacks-from_no_Contains (other ∷ text) byte none =
-    or_from _ _ (ne_eqb other byte (λ same. none (0, omega arith, same))) (Lacks-from_no_Contains text byte (λ found. none (suc found.0, let within = found.1 in omega arith, found.2)))
+    or_from _ _ (ne_eqb other byte (λ same. none (0, omega arith, same)))
+    (Lacks-from_no_Contains text byte (λ found. none (suc found.0, let within = found.1 in omega arith, found.2)))
 
-first_split_parts : (sought : ℕ) (text : List ℕ) (place : Option ℕ) → position (λ byte. nat_eq byte sought) text ≡ place → (front back : List ℕ) → ◌≡◌ {A = Option (List ℕ × List ℕ)} (option_map (λ place. (take place text, drop (place + 1) text)) place) (Some (front, back))
+first_split_parts : (sought : ℕ) (text : List ℕ) (place : Option ℕ) → position (λ byte. nat_eq byte sought) text ≡ place → (front back : List ℕ)
+    → ◌≡◌ {A = Option (List ℕ × List ℕ)} (option_map (λ place. (take place text, drop (place + 1) text)) place) (Some (front, back))
     → (text ≡ front ++ sought ∷ back) × Lacks front sought
 first_split_parts sought text None is front back e = cc
 first_split_parts sought text (Some place) is front back e =
@@ -80,36 +83,49 @@ first_split_parts sought text (Some place) is front back e =
     let parts = some_pair_parts _ _ _ _ e in
     let comma : get_or text place 0 ≡ sought = eqb-true _ _ found.1 in
     let within : place < length text = found.0 in
-    let whole : text ≡ take place text ++ sought ∷ drop (place + 1) text = sym (take-append-drop place text) ∙ ap (λ l. take place text ++ l) (drop_more text place 0 within ∙ ap (λ byte. byte ∷ drop (place + 1) text) comma) in
-    let none : Lacks (take place text) sought = list_any_none (λ byte. nat_eq byte sought) (take place text) (All-from_get_or (λ byte. nat_eq byte sought ≡ false) (take place text) 0 (λ k below. let few : k < place = omega (arith, length-take place text) in ap (λ byte. nat_eq byte sought) (get_or-take place text k 0 few) ∙ found.2 k few)) in
+    let whole : text ≡ take place text ++ sought ∷ drop (place + 1) text = sym (take-append-drop place text)
+    ∙ ap (λ l. take place text ++ l) (drop_more text place 0 within ∙ ap (λ byte. byte ∷ drop (place + 1) text) comma) in
+    let none : Lacks (take place text) sought = list_any_none (λ byte. nat_eq byte sought) (take place text)
+    (All-from_get_or (λ byte. nat_eq byte sought ≡ false) (take place text) 0
+    (λ k below. let few : k < place = omega (arith, length-take place text) in ap (λ byte. nat_eq byte sought) (get_or-take place text k 0 few)
+    ∙ found.2 k few)) in
     (whole ∙ ap (λ l. l ++ sought ∷ drop (place + 1) text) parts.0 ∙ ap (λ l. front ++ sought ∷ l) parts.1, subst (λ l. Lacks l sought) parts.0 none)
 
-pub first_split_sound : (sought : ℕ) (text front back : List ℕ) → first_split sought text ≡ Some (front, back) → (text ≡ front ++ sought ∷ back) × Lacks front sought
+pub first_split_sound : (sought : ℕ) (text front back : List ℕ) → first_split sought text ≡ Some (front, back)
+    → (text ≡ front ++ sought ∷ back) × Lacks front sought
 unfolding first_split
 first_split_sound sought text front back e = first_split_parts sought text (position (λ byte. nat_eq byte sought) text) refl front back e
 
 pub first_split_complete : (sought : ℕ) (front back : List ℕ) → Lacks front sought → first_split sought (front ++ sought ∷ back) ≡ Some (front, back)
 unfolding first_split
 first_split_complete sought front back lacks =
-    let place : position_or_len (λ byte. nat_eq byte sought) (front ++ sought ∷ back) ≡ length front = position_or_len_is (λ byte. nat_eq byte sought) (front ++ sought ∷ back) (length front) 0 (omega (arith, length-append front (sought ∷ back)))
+    let place : position_or_len (λ byte. nat_eq byte sought) (front ++ sought ∷ back) ≡ length front = position_or_len_is (λ byte. nat_eq byte sought)
+    (front ++ sought ∷ back) (length front) 0 (omega (arith, length-append front (sought ∷ back)))
     (λ k below. ap (λ byte. nat_eq byte sought) (get_or_append_left front (sought ∷ back) 0 k below) ∙ Lacks-at front sought k lacks below)
     (λ within. ap (λ byte. nat_eq byte sought) (get_or_at front sought back 0 (length front) refl) ∙ eq-eqb sought sought refl) in
     let inside : nat_lt (length front) (length (front ++ sought ∷ back)) ≡ true = lt-ltb _ _ (omega (arith, length-append front (sought ∷ back))) in
-    let rest : drop (length front + 1) (front ++ sought ∷ back) ≡ back = sym (drop-drop 1 (length front) (front ++ sought ∷ back)) ∙ ap (drop 1) (drop-append_seam front (sought ∷ back)) in
+    let rest : drop (length front + 1) (front ++ sought ∷ back) ≡ back = sym (drop-drop 1 (length front) (front ++ sought ∷ back))
+    ∙ ap (drop 1) (drop-append_seam front (sought ∷ back)) in
     rw (place, inside, take-append_seam front (sought ∷ back), rest) refl
 
 -- the last one is the first one in reverse
-last_split_parts : (sought : ℕ) (text : List ℕ) (parts : Option (List ℕ × List ℕ)) → first_split sought (reverse text) ≡ parts → (front back : List ℕ) → ◌≡◌ {A = Option (List ℕ × List ℕ)} (option_map (λ parts. (reverse parts.1, reverse parts.0)) parts) (Some (front, back))
+last_split_parts : (sought : ℕ) (text : List ℕ) (parts : Option (List ℕ × List ℕ)) → first_split sought (reverse text) ≡ parts → (front back : List ℕ)
+    → ◌≡◌ {A = Option (List ℕ × List ℕ)} (option_map (λ parts. (reverse parts.1, reverse parts.0)) parts) (Some (front, back))
     → (text ≡ front ++ sought ∷ back) × Lacks back sought
 last_split_parts sought text None is front back e = cc
 last_split_parts sought text (Some parts) is front back e =
     let found = first_split_sound sought (reverse text) parts.0 parts.1 is in
     let same = some_pair_parts _ _ _ _ e in
     let turned : text ≡ reverse parts.1 ++ sought ∷ reverse parts.0 =
-    sym (reverse-reverse text) ∙ ap reverse found.0 ∙ reverse-append parts.0 (sought ∷ parts.1) ∙ ap (λ l. l ++ reverse parts.0) (reverse-cons sought parts.1) ∙ append_assoc (reverse parts.1) (sought ∷ []) (reverse parts.0) in
-    (turned ∙ ap (λ l. l ++ sought ∷ reverse parts.0) same.0 ∙ ap (λ l. front ++ sought ∷ l) same.1, subst (λ l. Lacks l sought) same.1 (list_any-reverse (λ other. nat_eq other sought) parts.0 found.1))
+    sym (reverse-reverse text) ∙ ap reverse found.0 ∙ reverse-append parts.0 (sought ∷ parts.1)
+    ∙ ap (λ l. l ++ reverse parts.0) (reverse-cons sought parts.1) ∙ append_assoc (reverse parts.1) (sought ∷ []) (reverse parts.0) in (
+      turned ∙ ap (λ l. l ++ sought ∷ reverse parts.0) same.0
+          ∙ ap (λ l. front ++ sought ∷ l) same.1,
+      subst (λ l. Lacks l sought) same.1 (list_any-reverse (λ other. nat_eq other sought) parts.0 found.1),
+    )
 
-pub last_split_sound : (sought : ℕ) (text front back : List ℕ) → last_split sought text ≡ Some (front, back) → (text ≡ front ++ sought ∷ back) × Lacks back sought
+pub last_split_sound : (sought : ℕ) (text front back : List ℕ) → last_split sought text ≡ Some (front, back)
+    → (text ≡ front ++ sought ∷ back) × Lacks back sought
 unfolding last_split
 last_split_sound sought text front back e = last_split_parts sought text (first_split sought (reverse text)) refl front back e
 
@@ -117,8 +133,15 @@ pub last_split_complete : (sought : ℕ) (front back : List ℕ) → Lacks back 
 unfolding last_split
 last_split_complete sought front back lacks =
     let turned : reverse (front ++ sought ∷ back) ≡ reverse back ++ sought ∷ reverse front =
-    reverse-append front (sought ∷ back) ∙ ap (λ l. l ++ reverse front) (reverse-cons sought back) ∙ append_assoc (reverse back) (sought ∷ []) (reverse front) in
-    rw (turned, first_split_complete sought (reverse back) (reverse front) (list_any-reverse (λ other. nat_eq other sought) back lacks), reverse-reverse front, reverse-reverse back) refl
+    reverse-append front (sought ∷ back) ∙ ap (λ l. l ++ reverse front) (reverse-cons sought back)
+    ∙ append_assoc (reverse back) (sought ∷ []) (reverse front) in
+    rw (
+      turned,
+      first_split_complete sought (reverse back) (reverse front)
+          (list_any-reverse (λ other. nat_eq other sought) back lacks),
+      reverse-reverse front,
+      reverse-reverse back,
+    ) refl
 
 -- the digits of a number between blanks
 pub field_number_sound : (text : List ℕ) (value : ℕ) → field_number text ≡ Some value → (number : ℕ) × IsNumberField text number × (value ≡ capped number)
@@ -138,14 +161,18 @@ is_number_byte byte = is_blank byte || is_ascii_digit byte
 
 list_all-weaker : (p q : ℕ → Bool) (xs : List ℕ) → ((x : ℕ) → p x ≡ true → q x ≡ true) → list_all p xs ≡ true → list_all q xs ≡ true
 list_all-weaker p q [] weaker all = refl
-list_all-weaker p q (x ∷ xs) weaker all = let parts = and_parts (p x) (list_all p xs) all in and_from _ _ (weaker x parts.0) (list_all-weaker p q xs weaker parts.1)
+list_all-weaker p q (x ∷ xs) weaker all = let parts = and_parts (p x) (list_all p xs) all in and_from _ _ (weaker x parts.0)
+    (list_all-weaker p q xs weaker parts.1)
 
 pub number_bytes : (text : List ℕ) (number : ℕ) → IsNumberField text number → list_all is_number_byte text ≡ true
 number_bytes text number field =
     let parts = trims text in
     let digits = and_parts (nat_lt 0 (length (trimmed text))) (list_all is_ascii_digit (trimmed text)) field.digits in
     ap (list_all is_number_byte) parts.whole ∙ list_all-append is_number_byte parts.front (trimmed text ++ parts.back)
-    ∙ and_from _ _ (list_all-weaker is_blank is_number_byte parts.front (λ x h. or_left (is_blank x) (is_ascii_digit x) h) parts.before) (list_all-append is_number_byte (trimmed text) parts.back ∙ and_from _ _ (list_all-weaker is_ascii_digit is_number_byte (trimmed text) (λ x h. or_right (is_blank x) (is_ascii_digit x) h) digits.1) (list_all-weaker is_blank is_number_byte parts.back (λ x h. or_left (is_blank x) (is_ascii_digit x) h) parts.behind))
+    ∙ and_from _ _ (list_all-weaker is_blank is_number_byte parts.front (λ x h. or_left (is_blank x) (is_ascii_digit x) h) parts.before)
+    (list_all-append is_number_byte (trimmed text) parts.back
+    ∙ and_from _ _ (list_all-weaker is_ascii_digit is_number_byte (trimmed text) (λ x h. or_right (is_blank x) (is_ascii_digit x) h) digits.1)
+    (list_all-weaker is_blank is_number_byte parts.back (λ x h. or_left (is_blank x) (is_ascii_digit x) h) parts.behind))
 
 -- no comma, no quote and no parenthesis, and no byte beyond ASCII
 pub number_lacks : (text : List ℕ) (number byte : ℕ) → IsNumberField text number → is_number_byte byte ≡ false → Lacks text byte

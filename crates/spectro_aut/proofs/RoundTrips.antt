@@ -25,7 +25,8 @@ follow_plain : (line rest : List ℕ) (before after : Before Reading) (next : Re
     → Follow aut_form (behind before (line ++ 10 ∷ []) next) (lines_of rest) after → Follow aut_form before (lines_of (line ++ 10 ∷ rest)) after
 follow_plain line rest before after next plain room gives others =
     let ended : first_line (line ++ 10 ∷ []) ≡ line = first_line-ended line plain.unbroken ∙ plain.ended in
-    let taken : IsTaken aut_form before.state (before.lines + 1) line next = record { short = plain.short; text = plain.utf8; leads = given plain.some gives } in
+    let taken : IsTaken aut_form before.state
+    (before.lines + 1) line next = record { short = plain.short; text = plain.utf8; leads = given plain.some gives } in
     let read = taken-IsRead aut_form before (line ++ 10 ∷ []) line ended (omega (arith, length-append line (10 ∷ []))) next taken in
     subst (λ lines. Follow aut_form before lines after) (sym (lines_of-ended line rest plain.unbroken)) (next, read, others)
 

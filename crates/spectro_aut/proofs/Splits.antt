@@ -27,7 +27,8 @@ from_end text place within =
     subst (λ n. Parts n text) long (subst (Parts (length back)) whole (take-reverse front back, drop-reverse front back))
 
 pub last_split-at : (sought : ℕ) (text : List ℕ) (place : ℕ) → position (λ byte. byte == sought) (reverse text) ≡ Some place → place < length text
-    → last_split sought text ≡ Some (take (length text - 1 - place) text, take (length text - (length text - 1 - place + 1)) (drop (length text - 1 - place + 1) text))
+    → last_split sought text ≡ Some
+    (take (length text - 1 - place) text, take (length text - (length text - 1 - place + 1)) (drop (length text - 1 - place + 1) text))
 unfolding last_split first_split
 last_split-at sought text place at within =
     let front = (from_end text (place + 1) (omega arith)).1 in

@@ -41,7 +41,8 @@ within_transition text source field target byte is within =
     let middle : Contains is.middle byte = within_trimmed is.middle byte (subst (λ field. Contains field byte) is.is_field within) in
     let ended = Contains-append_right (40 ∷ is.first) (44 ∷ is.middle) byte (Contains-later 44 is.middle byte middle) in
     subst (λ text. Contains text byte) (sym is.whole)
-    (Contains-append_left (((40 ∷ is.first) ++ (44 ∷ is.middle)) ++ (44 ∷ is.last)) (41 ∷ []) byte (Contains-append_left ((40 ∷ is.first) ++ (44 ∷ is.middle)) (44 ∷ is.last) byte ended))
+    (Contains-append_left (((40 ∷ is.first) ++ (44 ∷ is.middle)) ++ (44 ∷ is.last)) (41 ∷ []) byte
+    (Contains-append_left ((40 ∷ is.first) ++ (44 ∷ is.middle)) (44 ∷ is.last) byte ended))
 
 pub label-one_line : (text : List ℕ) (step : Step) → IsStepLine text step → (Contains text 10 → ⊥) → Contains step.label 10 → ⊥
 label-one_line text step is one_line within =

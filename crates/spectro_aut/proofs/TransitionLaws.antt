@@ -31,12 +31,15 @@ pub record IsTransitionOf (text : List ℕ) (transition : Transition) : Type 0 w
 transition_parts : (first middle last : List ℕ) → 40 ∷ first ++ 44 ∷ middle ++ 44 ∷ last ++ 41 ∷ [] ≡ 40 ∷ ((first ++ 44 ∷ (middle ++ 44 ∷ last)) ++ 41 ∷ [])
 transition_parts first middle last = simp append_assoc
 
-transition_whole : (text opened fields first others middle last : List ℕ) → text ≡ 40 ∷ opened → opened ≡ fields ++ 41 ∷ [] → fields ≡ first ++ 44 ∷ others → others ≡ middle ++ 44 ∷ last → text ≡ 40 ∷ first ++ 44 ∷ middle ++ 44 ∷ last ++ 41 ∷ []
+transition_whole : (text opened fields first others middle last : List ℕ) → text ≡ 40 ∷ opened → opened ≡ fields ++ 41 ∷ [] → fields ≡ first ++ 44 ∷ others
+    → others ≡ middle ++ 44 ∷ last → text ≡ 40 ∷ first ++ 44 ∷ middle ++ 44 ∷ last ++ 41 ∷ []
 transition_whole text opened fields first others middle last o z f l =
     o ∙ ap (λ l. 40 ∷ l) (z ∙ ap (λ l. l ++ 41 ∷ []) (f ∙ ap (λ l. first ++ 44 ∷ l) l)) ∙ sym (transition_parts first middle last)
 
-transition_made : (text first middle last : List ℕ) (source target : ℕ) (transition : Transition) → text ≡ 40 ∷ first ++ 44 ∷ middle ++ 44 ∷ last ++ 41 ∷ [] → field_number first ≡ Some source → field_number last ≡ Some target
-    → ◌≡◌ {A = Option Transition} (Some (record { source = source; field = trimmed middle; target = target })) (Some transition) → IsTransitionOf text transition
+transition_made : (text first middle last : List ℕ) (source target : ℕ) (transition : Transition) → text ≡ 40 ∷ first ++ 44 ∷ middle ++ 44 ∷ last ++ 41 ∷ []
+    → field_number first ≡ Some source → field_number last ≡ Some target
+    → ◌≡◌ {A = Option Transition} (Some (record { source = source; field = trimmed middle; target = target })) (Some transition)
+    → IsTransitionOf text transition
 transition_made text first middle last source target transition whole s t e =
     let is_first = field_number_sound first source s in
     let is_last = field_number_sound last target t in
@@ -57,7 +60,8 @@ transition_of_sound text transition e =
     bind_then (last_split 44 first.1) _ transition e (λ last l e.
     bind_then (field_number first.0) _ transition e (λ source s e.
     bind_then (field_number last.1) _ transition e (λ target t e.
-    let whole = transition_whole text opened fields first.0 first.1 last.0 last.1 (after_sound (40 ∷ []) text opened o) (before_last_sound 41 opened fields z) (first_split_sound 44 fields first.0 first.1 f).0
+    let whole = transition_whole text opened fields first.0 first.1 last.0 last.1 (after_sound (40 ∷ []) text opened o)
+    (before_last_sound 41 opened fields z) (first_split_sound 44 fields first.0 first.1 f).0
     (last_split_sound 44 first.1 last.0 last.1 l).0 in
     transition_made text first.0 last.0 last.1 source target transition whole s t e))))))
 
@@ -84,7 +88,8 @@ transition_of_complete text source field target h =
 
 -- where the field of a transition stands in its line
 field_place : (front first before field behind last back : List ℕ)
-    → front ++ ((40 ∷ first ++ 44 ∷ (before ++ (field ++ behind)) ++ 44 ∷ last ++ 41 ∷ []) ++ back) ≡ (front ++ 40 ∷ first) ++ 44 ∷ (before ++ (field ++ (behind ++ 44 ∷ (last ++ 41 ∷ back))))
+    → front ++ ((40 ∷ first ++ 44 ∷ (before ++ (field ++ behind)) ++ 44 ∷ last ++ 41 ∷ []) ++ back) ≡ (front ++ 40 ∷ first) ++ 44 ∷
+    (before ++ (field ++ (behind ++ 44 ∷ (last ++ 41 ∷ back))))
 field_place front first before field behind last back = simp append_assoc
 
 pub field_utf8 : (line : List ℕ) (source : ℕ) (field : List ℕ) (target : ℕ) → IsUtf8 line → IsTransition (trimmed line) source field target → IsUtf8 field
@@ -94,9 +99,11 @@ field_utf8 line source field target utf8 h =
     let behind : List ℕ = h.last ++ 41 ∷ outer.back in
     let middle : h.middle ≡ inner.front ++ (field ++ inner.back) = inner.whole ∙ ap (λ l. inner.front ++ (l ++ inner.back)) (sym h.is_field) in
     let whole : line ≡ (outer.front ++ 40 ∷ h.first) ++ 44 ∷ (inner.front ++ (field ++ (inner.back ++ 44 ∷ behind))) =
-    outer.whole ∙ ap (λ l. outer.front ++ (l ++ outer.back)) (h.whole ∙ ap (λ l. 40 ∷ h.first ++ 44 ∷ l ++ 44 ∷ h.last ++ 41 ∷ []) middle) ∙ field_place outer.front h.first inner.front field inner.back h.last outer.back in
+    outer.whole ∙ ap (λ l. outer.front ++ (l ++ outer.back)) (h.whole ∙ ap (λ l. 40 ∷ h.first ++ 44 ∷ l ++ 44 ∷ h.last ++ 41 ∷ []) middle)
+    ∙ field_place outer.front h.first inner.front field inner.back h.last outer.back in
     let opened = utf8_behind (outer.front ++ 40 ∷ h.first) 44 (inner.front ++ (field ++ (inner.back ++ 44 ∷ behind))) (omega arith) (subst IsUtf8 whole utf8) in
-    utf8_before_blanks field inner.back 44 behind inner.behind (omega arith) (utf8_behind_blanks inner.front (field ++ (inner.back ++ 44 ∷ behind)) inner.before opened)
+    utf8_before_blanks field inner.back 44 behind inner.behind (omega arith)
+    (utf8_behind_blanks inner.front (field ++ (inner.back ++ 44 ∷ behind)) inner.before opened)
 
 -- the label of a field
 label_of_bare : (field label : List ℕ) → is_bare field ≡ true → utf8_of field ≡ Some label → IsLabelField field label
@@ -111,9 +118,11 @@ label_of_quoted field label e =
     let inner = bind_some (unquoted field) utf8_of label e in
     let rest = bind_some (after (34 ∷ []) field) (before_last 34) inner.0 inner.1 in
     let same = cond_some (is_utf8 inner.0) inner.0 label inner.2 in
-    IsLabelField.quoted (after_sound (34 ∷ []) field rest.0 rest.1 ∙ ap (λ l. 34 ∷ l) (before_last_sound 34 rest.0 inner.0 rest.2) ∙ ap (λ l. 34 ∷ l ++ 34 ∷ []) same.1)
+    IsLabelField.quoted (after_sound (34 ∷ []) field rest.0 rest.1 ∙ ap (λ l. 34 ∷ l) (before_last_sound 34 rest.0 inner.0 rest.2)
+    ∙ ap (λ l. 34 ∷ l ++ 34 ∷ []) same.1)
 
-label_of_either : (field label : List ℕ) (bare : Bool) → is_bare field ≡ bare → cond bare (utf8_of field) (unquoted field >>= utf8_of) ≡ Some label → IsLabelField field label
+label_of_either : (field label : List ℕ) (bare : Bool) → is_bare field ≡ bare → cond bare (utf8_of field) (unquoted field >>= utf8_of) ≡ Some label
+    → IsLabelField field label
 label_of_either field label true is e = label_of_bare field label is e
 label_of_either field label false is e = label_of_quoted field label e
 
@@ -123,7 +132,8 @@ label_of_sound field label e = label_of_either field label (is_bare field) refl 
 
 -- the label of a field of text is text
 pub label_utf8 : (field label : List ℕ) → IsLabelField field label → IsUtf8 field → IsUtf8 label
-label_utf8 field label (IsLabelField.quoted whole) utf8 = utf8_before label 34 [] (omega arith) (utf8_behind [] 34 (label ++ 34 ∷ []) (omega arith) (subst IsUtf8 whole utf8))
+label_utf8 field label (IsLabelField.quoted whole) utf8 = utf8_before label 34 [] (omega arith)
+    (utf8_behind [] 34 (label ++ 34 ∷ []) (omega arith) (subst IsUtf8 whole utf8))
 label_utf8 field label (IsLabelField.bare same some none) utf8 = subst IsUtf8 (sym same) utf8
 
 pub label_of_complete : (field label : List ℕ) → IsLabelField field label → IsUtf8 field → label_of field ≡ Some label

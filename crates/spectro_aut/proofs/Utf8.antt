@@ -15,6 +15,7 @@ not_utf8 bytes none = by (is_utf8 bytes) refl
     by false e = refl
 
 pub ok-utf8_of : {E : Type 0} (bytes : List ℕ) (result : Result (Bor (List ℕ)) E) (Q : E → Type 0)
-    → MatchResult result (λ text. (text.now ≡ bytes) × IsUtf8 bytes) (λ e. ¬ (IsUtf8 bytes) × Q e) → option_map (λ text. text.now) (result_ok result) ≡ utf8_of bytes
+    → MatchResult result (λ text. (text.now ≡ bytes) × IsUtf8 bytes) (λ e. ¬ (IsUtf8 bytes) × Q e)
+    → option_map (λ text. text.now) (result_ok result) ≡ utf8_of bytes
 ok-utf8_of bytes (Ok text) Q cases = rw (is_utf8-from_IsUtf8 bytes cases.1) (rw cases.0 refl)
 ok-utf8_of bytes (Err e) Q cases = rw (not_utf8 bytes cases.0) refl

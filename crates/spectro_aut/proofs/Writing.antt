@@ -14,11 +14,14 @@ pub header-pieces : (held : List ℕ) (system : System) → held ++ header_text 
 header-pieces held system = simp append_assoc
 
 -- the text of a step behind what is held, in the pieces in which it is put
-pub step-pieces : (held : List ℕ) (step : Step) → held ++ step_text step ≡ ((((held ++ (codes "(" ++ decimal step.source)) ++ codes ", \"") ++ step.label) ++ (codes "\", " ++ decimal step.target)) ++ codes ")\n"
+pub step-pieces : (held : List ℕ) (step : Step)
+    → held ++ step_text step ≡
+    ((((held ++ (codes "(" ++ decimal step.source)) ++ codes ", \"") ++ step.label) ++ (codes "\", " ++ decimal step.target)) ++ codes ")\n"
 step-pieces held step = simp append_assoc
 
 -- the step at a place, with the text that its label has
-pub step-at : (steps : List Step) (place source label_no target : ℕ) (label : Label) → IsStepAt steps place source label_no target → slice_get (labels_of steps) label_no ≡ Some label
+pub step-at : (steps : List Step) (place source label_no target : ℕ) (label : Label) → IsStepAt steps place source label_no target
+    → slice_get (labels_of steps) label_no ≡ Some label
     → slice_get steps place ≡ Some (record { source = source; label = label; target = target })
 step-at steps place source label_no target label step named =
     let same : step.label ≡ label = let numbered = step.numbered in cc in
@@ -28,12 +31,14 @@ step-at steps place source label_no target label step named =
 pub steps-more : (front : List ℕ) (steps : List Step) (place : ℕ) (step : Step) → slice_get steps place ≡ Some step
     → (front ++ flat_map step_text (take place steps)) ++ step_text step ≡ front ++ flat_map step_text (take (place + 1) steps)
 steps-more front steps place step found =
-    subst (λ last. (front ++ flat_map step_text (take place steps)) ++ step_text last ≡ front ++ flat_map step_text (take (place + 1) steps)) (get_or_from_slice_get steps place step step found)
+    subst (λ last. (front ++ flat_map step_text (take place steps)) ++ step_text last ≡ front ++ flat_map step_text (take (place + 1) steps))
+    (get_or_from_slice_get steps place step step found)
     (row-more step_text front steps place step (slice_get_within steps place step found))
 
 -- the text up to a step, and the text of the steps after it
 pub steps-parts : (front : List ℕ) (steps : List Step) (place : ℕ) (step : Step) → slice_get steps place ≡ Some step
     → front ++ flat_map step_text steps ≡ ((front ++ flat_map step_text (take place steps)) ++ step_text step) ++ flat_map step_text (drop (place + 1) steps)
 steps-parts front steps place step found =
-    subst (λ last. front ++ flat_map step_text steps ≡ ((front ++ flat_map step_text (take place steps)) ++ step_text last) ++ flat_map step_text (drop (place + 1) steps)) (get_or_from_slice_get steps place step step found)
+    subst (λ last. front ++ flat_map step_text steps ≡ ((front ++ flat_map step_text (take place steps)) ++ step_text last) ++ flat_map step_text
+    (drop (place + 1) steps)) (get_or_from_slice_get steps place step step found)
     (row-stopped step_text front steps place step (slice_get_within steps place step found))

@@ -34,7 +34,8 @@ Lacks-append : (front rest : List ℕ) (byte : ℕ) → Lacks front byte → Lac
 Lacks-append front rest byte first second = list_any-append (λ other. nat_eq other byte) front rest ∙ or_from _ _ first second
 
 -- ---- bytes of ASCII are UTF-8
-list_all-ascii_append : (front rest : List ℕ) → list_all is_ascii_byte front ≡ true → list_all is_ascii_byte rest ≡ true → list_all is_ascii_byte (front ++ rest) ≡ true
+list_all-ascii_append : (front rest : List ℕ) → list_all is_ascii_byte front ≡ true → list_all is_ascii_byte rest ≡ true
+    → list_all is_ascii_byte (front ++ rest) ≡ true
 list_all-ascii_append front rest first second = list_all-append is_ascii_byte front rest ∙ and_from _ _ first second
 
 IsUtf8-list_all : (text : List ℕ) → list_all is_ascii_byte text ≡ true → IsUtf8 text
@@ -44,14 +45,17 @@ IsUtf8-list_all text ascii = IsUtf8-from_ascii text (IsAscii-from_list_all text 
 without_cr-closed : (front : List ℕ) → without_cr (front ++ 41 ∷ []) ≡ front ++ 41 ∷ []
 without_cr-closed front =
     let place : length (front ++ 41 ∷ []) - 1 ≡ length front = omega (arith, length-append front (41 ∷ [])) in
-    let last : get_or (front ++ 41 ∷ []) (length (front ++ 41 ∷ []) - 1) 0 ≡ 41 = ap (λ place. get_or (front ++ 41 ∷ []) place 0) place ∙ get_or_at front 41 [] 0 (length front) refl in
+    let last : get_or (front ++ 41 ∷ []) (length (front ++ 41 ∷ []) - 1) 0 ≡ 41 = ap (λ place. get_or (front ++ 41 ∷ []) place 0) place
+    ∙ get_or_at front 41 [] 0 (length front) refl in
     rw last refl
 
 trimmed-closed : (first : ℕ) (others front : List ℕ) → first ∷ others ≡ front ++ 41 ∷ [] → is_blank first ≡ false → trimmed (first ∷ others) ≡ first ∷ others
 trimmed-closed first others front closes opens =
-    subst (λ line. trimmed line ≡ first ∷ others) (append-nil (first ∷ others)) (trimmed_core [] (first ∷ others) [] first 41 others front refl refl refl closes opens refl)
+    subst (λ line. trimmed line ≡ first ∷ others) (append-nil (first ∷ others))
+    (trimmed_core [] (first ∷ others) [] first 41 others front refl refl refl closes opens refl)
 
-closed : (first : ℕ) (others front : List ℕ) → first ∷ others ≡ front ++ 41 ∷ [] → is_blank first ≡ false → Lacks (first ∷ others) 10 → IsUtf8 (first ∷ others) → length (first ∷ others) ≤ 32768 → IsPlain (first ∷ others)
+closed : (first : ℕ) (others front : List ℕ) → first ∷ others ≡ front ++ 41 ∷ [] → is_blank first ≡ false → Lacks (first ∷ others) 10
+    → IsUtf8 (first ∷ others) → length (first ∷ others) ≤ 32768 → IsPlain (first ∷ others)
 closed first others front closes opens lacks utf8 short = record {
   unbroken = held.unbroken (first ∷ others) (Lacks-Contains (first ∷ others) 10 lacks);
   utf8 = utf8;
@@ -71,10 +75,12 @@ header_line system = header_bytes (decimal system.initial) (decimal (length syst
 pub header_text_line : (system : System) (rest : List ℕ) → header_text system ++ rest ≡ header_line system ++ 10 ∷ rest
 header_text_line system rest = simp append_assoc
 
-header_whole : (first second third : List ℕ) → header_bytes first second third ≡ codes "des" ++ (32 ∷ []) ++ 40 ∷ first ++ 44 ∷ (32 ∷ second) ++ 44 ∷ (32 ∷ third) ++ 41 ∷ []
+header_whole : (first second third : List ℕ)
+    → header_bytes first second third ≡ codes "des" ++ (32 ∷ []) ++ 40 ∷ first ++ 44 ∷ (32 ∷ second) ++ 44 ∷ (32 ∷ third) ++ 41 ∷ []
 header_whole first second third = simp append_assoc
 
-pub IsHeader-header_line : (system : System) → system.initial < 2 ^ 64 → length system.steps < 2 ^ 64 → system.states < 2 ^ 64 → IsHeader (header_line system) system.initial (length system.steps) system.states
+pub IsHeader-header_line : (system : System) → system.initial < 2 ^ 64 → length system.steps < 2 ^ 64 → system.states < 2 ^ 64
+    → IsHeader (header_line system) system.initial (length system.steps) system.states
 IsHeader-header_line system initial steps states = record {
   gap = 32 ∷ [];
   first = decimal system.initial;
@@ -87,10 +93,12 @@ IsHeader-header_line system initial steps states = record {
   is_states = spaced_field system.states states;
 }
 
-header_closes : (first second third : List ℕ) → header_bytes first second third ≡ (codes "des (" ++ first ++ codes ", " ++ second ++ codes ", " ++ third) ++ 41 ∷ []
+header_closes : (first second third : List ℕ)
+    → header_bytes first second third ≡ (codes "des (" ++ first ++ codes ", " ++ second ++ codes ", " ++ third) ++ 41 ∷ []
 header_closes first second third = simp append_assoc
 
-header_plain : (initial transitions states : ℕ) → initial ≤ 1000000 → transitions ≤ 1000000 → states ≤ 1000000 → IsPlain (header_bytes (decimal initial) (decimal transitions) (decimal states))
+header_plain : (initial transitions states : ℕ) → initial ≤ 1000000 → transitions ≤ 1000000 → states ≤ 1000000
+    → IsPlain (header_bytes (decimal initial) (decimal transitions) (decimal states))
 header_plain initial transitions states one two three =
     let first : List ℕ = decimal initial in
     let second : List ℕ = decimal transitions in
@@ -98,12 +106,27 @@ header_plain initial transitions states one two three =
     let last : List ℕ = third ++ codes ")" in
     let middle : List ℕ = second ++ (codes ", " ++ last) in
     let lacks : Lacks (header_bytes first second third) 10 =
-    Lacks-append first (codes ", " ++ middle) 10 (Lacks-decimal initial (omega arith)) (Lacks-append second (codes ", " ++ last) 10 (Lacks-decimal transitions (omega arith)) (Lacks-append third (codes ")") 10 (Lacks-decimal states (omega arith)) refl)) in
+    Lacks-append first (codes ", " ++ middle) 10 (Lacks-decimal initial (omega arith))
+    (Lacks-append second (codes ", " ++ last) 10 (Lacks-decimal transitions (omega arith)) (Lacks-append third (codes ")") 10
+    (Lacks-decimal states (omega arith)) refl)) in
     let ascii : list_all is_ascii_byte (header_bytes first second third) ≡ true =
-    list_all-ascii_append first (codes ", " ++ middle) (list_all-decimal initial (omega arith)) (list_all-ascii_append second (codes ", " ++ last) (list_all-decimal transitions (omega arith)) (list_all-ascii_append third (codes ")") (list_all-decimal states (omega arith)) refl)) in
+    list_all-ascii_append first (codes ", " ++ middle) (list_all-decimal initial (omega arith))
+    (list_all-ascii_append second (codes ", " ++ last) (list_all-decimal transitions (omega arith)) (list_all-ascii_append third (codes ")")
+    (list_all-decimal states (omega arith)) refl)) in
     let short : length (header_bytes first second third) ≤ 32768 =
-    omega (arith, length-append first (codes ", " ++ middle), length-append second (codes ", " ++ last), length-append third (codes ")"), length-decimal initial one, length-decimal transitions two, length-decimal states three) in
-    closed 100 (codes "es (" ++ (first ++ (codes ", " ++ middle))) (codes "des (" ++ first ++ codes ", " ++ second ++ codes ", " ++ third) (header_closes first second third) refl lacks (IsUtf8-list_all (header_bytes first second third) ascii) short
+    omega (
+      arith,
+      length-append first (codes ", " ++ middle),
+      length-append second (codes ", " ++ last),
+      length-append third
+          (codes ")"),
+      length-decimal initial one,
+      length-decimal transitions two,
+      length-decimal states three,
+    ) in
+    closed 100 (codes "es (" ++ (first ++ (codes ", " ++ middle)))
+    (codes "des (" ++ first ++ codes ", " ++ second ++ codes ", " ++ third) (header_closes first second third) refl lacks
+    (IsUtf8-list_all (header_bytes first second third) ascii) short
 
 pub IsPlain-header_line : (system : System) → system.initial ≤ 1000000 → length system.steps ≤ 1000000 → system.states ≤ 1000000 → IsPlain (header_line system)
 IsPlain-header_line system initial steps states = header_plain system.initial (length system.steps) system.states initial steps states
@@ -143,18 +166,34 @@ IsStepLine-step_line step source target =
 step_closes : (first label last : List ℕ) → step_bytes first label last ≡ (step_opening first ++ label ++ codes "\", " ++ last) ++ 41 ∷ []
 step_closes first label last = simp append_assoc
 
-step_plain : (source target : ℕ) (label : List ℕ) → source ≤ 1000000 → target ≤ 1000000 → IsLabel label → IsUtf8 label → IsPlain (step_bytes (decimal source) label (decimal target))
+step_plain : (source target : ℕ) (label : List ℕ) → source ≤ 1000000 → target ≤ 1000000 → IsLabel label → IsUtf8 label
+    → IsPlain (step_bytes (decimal source) label (decimal target))
 step_plain source target label one two is_label utf8 =
     let first : List ℕ = decimal source in
     let last : List ℕ = decimal target in
     let rest : List ℕ = label ++ step_ending last in
     let lacks : Lacks (step_bytes first label last) 10 =
-    Lacks-append (step_opening first) rest 10 (Lacks-append first (codes ", \"") 10 (Lacks-decimal source (omega arith)) refl) (Lacks-append label (step_ending last) 10 (Lacks-from_no_Contains label 10 is_label.one_line) (Lacks-append last (codes ")") 10 (Lacks-decimal target (omega arith)) refl)) in
-    let opening : IsUtf8 (step_opening first) = IsUtf8-list_all (step_opening first) (list_all-ascii_append first (codes ", \"") (list_all-decimal source (omega arith)) refl) in
-    let ending : IsUtf8 (step_ending last) = IsUtf8-list_all (step_ending last) (list_all-ascii_append last (codes ")") (list_all-decimal target (omega arith)) refl) in
+    Lacks-append (step_opening first) rest 10 (Lacks-append first (codes ", \"") 10 (Lacks-decimal source (omega arith)) refl)
+    (Lacks-append label (step_ending last) 10 (Lacks-from_no_Contains label 10 is_label.one_line) (Lacks-append last (codes ")") 10
+    (Lacks-decimal target (omega arith)) refl)) in
+    let opening : IsUtf8 (step_opening first) = IsUtf8-list_all (step_opening first)
+    (list_all-ascii_append first (codes ", \"") (list_all-decimal source (omega arith)) refl) in
+    let ending : IsUtf8 (step_ending last) = IsUtf8-list_all (step_ending last) (list_all-ascii_append last (codes ")")
+    (list_all-decimal target (omega arith)) refl) in
     let short : length (step_bytes first label last) ≤ 32768 =
-    omega (arith, length-append (step_opening first) rest, length-append first (codes ", \""), length-append label (step_ending last), length-append last (codes ")"), length-decimal source one, length-decimal target two, is_label.short) in
-    closed 40 ((first ++ codes ", \"") ++ rest) (step_opening first ++ label ++ codes "\", " ++ last) (step_closes first label last) refl lacks (IsUtf8-append (step_opening first) rest opening (IsUtf8-append label (step_ending last) utf8 ending)) short
+    omega (
+      arith,
+      length-append (step_opening first) rest,
+      length-append first (codes ", \""),
+      length-append label (step_ending last),
+      length-append last
+          (codes ")"),
+      length-decimal source one,
+      length-decimal target two,
+      is_label.short,
+    ) in
+    closed 40 ((first ++ codes ", \"") ++ rest) (step_opening first ++ label ++ codes "\", " ++ last) (step_closes first label last) refl lacks
+    (IsUtf8-append (step_opening first) rest opening (IsUtf8-append label (step_ending last) utf8 ending)) short
 
 pub IsPlain-step_line : (step : Step) → step.source ≤ 1000000 → step.target ≤ 1000000 → IsLabel step.label → IsUtf8 step.label → IsPlain (step_line step)
 IsPlain-step_line step source target is_label utf8 = step_plain step.source step.target step.label source target is_label utf8

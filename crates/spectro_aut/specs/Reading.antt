@@ -109,7 +109,8 @@ step_within transitions system step =
 
 abbrev pub label_read : ℕ → System → Transition → Option (List ℕ) → Result Step AutKind
 label_read transitions system transition None = Err BadLabel
-label_read transitions system transition (Some label) = step_within transitions system (record { source = transition.source; label = label; target = transition.target })
+label_read transitions system transition (Some label) = step_within transitions system
+    (record { source = transition.source; label = label; target = transition.target })
 
 abbrev pub transition_read : ℕ → System → Option Transition → Result Step AutKind
 transition_read transitions system None = Err BadLine

@@ -6,7 +6,8 @@ use Rattle.spectro_spec.specs.System.{System, Step}
 
 -- des (INITIAL, TRANSITIONS, STATES) and LF
 abbrev pub header_text : System → List ℕ
-header_text system = codes "des (" ++ decimal system.initial ++ codes ", " ++ decimal (length system.steps) ++ codes ", " ++ decimal system.states ++ codes ")\n"
+header_text system =
+    codes "des (" ++ decimal system.initial ++ codes ", " ++ decimal (length system.steps) ++ codes ", " ++ decimal system.states ++ codes ")\n"
 
 -- (SOURCE, "LABEL", TARGET) and LF; in the label nothing is escaped
 abbrev pub step_text : Step → List ℕ

@@ -26,7 +26,8 @@ compared (n ∷ ns) (m ∷ ms) same = go (nat_cmp n m) (slice_cmp nat_cmp ns ms)
     go Equal Greater equal later = inr (sym equal, later)
 
 -- of three that exclude one another the answer tells which it is
-told : {A B C : Type 0} (order : Ordering) → MatchOrdering order A B C → (A → B → ⊥) → (A → C → ⊥) → (B → C → ⊥) → (order ≡ Less ↔ A) × (order ≡ Equal ↔ B) × (order ≡ Greater ↔ C)
+told : {A B C : Type 0} (order : Ordering) → MatchOrdering order A B C → (A → B → ⊥) → (A → C → ⊥) → (B → C → ⊥)
+    → (order ≡ Less ↔ A) × (order ≡ Equal ↔ B) × (order ≡ Greater ↔ C)
 told Less a not_ab not_ac not_bc = (((λ is. a), λ h. refl), ((λ is. cc), λ b. absurd (not_ab a b)), ((λ is. cc), λ c. absurd (not_ac a c)))
 told Equal b not_ab not_ac not_bc = (((λ is. cc), λ a. absurd (not_ab a b)), ((λ is. b), λ h. refl), ((λ is. cc), λ c. absurd (not_bc b c)))
 told Greater c not_ab not_ac not_bc = (((λ is. cc), λ a. absurd (not_ac a c)), ((λ is. cc), λ b. absurd (not_bc b c)), ((λ is. c), λ h. refl))

@@ -28,7 +28,8 @@ with_bit row s = slice_set row (s / 64) (bit_or (get_or row (s / 64) 0) (1 * 2 ^
 with_bit-same : (row : List ℕ) (s : ℕ) → s / 64 < length row → bit_of (with_bit row s) s ≡ true
 with_bit-same row s within =
     let word = get_or-set_at row (s / 64) (s / 64) (bit_or (get_or row (s / 64) 0) (1 * 2 ^ (s % 64) % 2 ^ 64)) 0 refl within in
-    let set : bit_at (get_or (with_bit row s) (s / 64) 0) (s % 64) ≡ 1 = ap (λ word. bit_at word (s % 64)) word ∙ bit_at_set_same w64 (get_or row (s / 64) 0) (s % 64) (omega arith) in
+    let set : bit_at (get_or (with_bit row s) (s / 64) 0) (s % 64) ≡ 1 = ap (λ word. bit_at word (s % 64)) word
+    ∙ bit_at_set_same w64 (get_or row (s / 64) 0) (s % 64) (omega arith) in
     ap (λ bit. bit == 1) set
 
 with_bit-other : (row : List ℕ) (s k : ℕ) → s / 64 < length row → k ≢ s → bit_of (with_bit row s) k ≡ bit_of row k
@@ -54,7 +55,8 @@ pub bits_of-get : (states : ℕ) (row : List ℕ) (s : ℕ) → s < states → g
 bits_of-get states row s within = get_or-map-range_with_len (bit_of row) 0 states s s false within (omega arith)
 
 -- two rows with the same bits at the states
-pub bits_of-same : (states : ℕ) (bits : List Bool) (row : List ℕ) → length bits ≡ states → ((s : ℕ) → s < states → get_or bits s false ≡ bit_of row s) → bits_of states row ≡ bits
+pub bits_of-same : (states : ℕ) (bits : List Bool) (row : List ℕ) → length bits ≡ states → ((s : ℕ) → s < states → get_or bits s false ≡ bit_of row s)
+    → bits_of states row ≡ bits
 bits_of-same states bits row long same = sym (fill_by_all (bit_of row) bits states false long same)
 
 pub bits_of-set : (states : ℕ) (row : List ℕ) (s : ℕ) → s / 64 < length row → bits_of states (with_bit row s) ≡ slice_set (bits_of states row) s true
@@ -77,11 +79,14 @@ zero_shifted n = grind arith
 
 -- a bit that is set, or is left as it was
 pub bits_of-mark : (states : ℕ) (row : List ℕ) (s : ℕ) (set : Bool) (bit : ℕ) → s / 64 < length row → bit ≡ bool_byte set
-    → bits_of states (slice_set row (s / 64) (bit_or (get_or row (s / 64) 0) (bit * 2 ^ (s % 64) % 2 ^ 64))) ≡ (if set then slice_set (bits_of states row) s true else bits_of states row)
+    → bits_of states (slice_set row (s / 64) (bit_or (get_or row (s / 64) 0) (bit * 2 ^ (s % 64) % 2 ^ 64))) ≡
+    (if set then slice_set (bits_of states row) s true else bits_of states row)
 bits_of-mark states row s true bit within is = rw is (bits_of-set states row s within)
 bits_of-mark states row s false bit within is =
     let none : bit * 2 ^ (s % 64) % 2 ^ 64 ≡ 0 = ap (λ bit. bit * 2 ^ (s % 64) % 2 ^ 64) is ∙ zero_shifted (2 ^ (s % 64)) in
-    let same : slice_set row (s / 64) (bit_or (get_or row (s / 64) 0) (bit * 2 ^ (s % 64) % 2 ^ 64)) ≡ row = ap (λ word. slice_set row (s / 64) (bit_or (get_or row (s / 64) 0) word)) none ∙ ap (slice_set row (s / 64)) (or_zero_r (get_or row (s / 64) 0)) ∙ set-get_or row (s / 64) 0 in
+    let same : slice_set row (s / 64) (bit_or (get_or row (s / 64) 0) (bit * 2 ^ (s % 64) % 2 ^ 64)) ≡ row = ap
+    (λ word. slice_set row (s / 64) (bit_or (get_or row (s / 64) 0) word)) none ∙ ap (slice_set row (s / 64)) (or_zero_r (get_or row (s / 64) 0))
+    ∙ set-get_or row (s / 64) 0 in
     ap (bits_of states) same
 
 -- ---- fresh rows
@@ -100,5 +105,6 @@ bits_of-zeros states n = bits_of-same states (replicate states false) (replicate
 
 pub bit_of-ones : (n s : ℕ) → s / 64 < n → bit_of (replicate n 18446744073709551615) s ≡ true
 bit_of-ones n s within =
-    let set : bit_at (get_or (replicate n 18446744073709551615) (s / 64) 0) (s % 64) ≡ 1 = ap (λ word. bit_at word (s % 64)) (get_or-replicate n (s / 64) 18446744073709551615 0 within) ∙ bit_at_ones 64 (s % 64) (omega arith) in
+    let set : bit_at (get_or (replicate n 18446744073709551615) (s / 64) 0) (s % 64) ≡ 1 = ap (λ word. bit_at word (s % 64))
+    (get_or-replicate n (s / 64) 18446744073709551615 0 within) ∙ bit_at_ones 64 (s % 64) (omega arith) in
     ap (λ bit. bit == 1) set

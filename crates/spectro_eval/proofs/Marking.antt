@@ -33,8 +33,12 @@ leads_on : (ends : List Ends) (step : Ends) (table : List Bool) (s : ℕ) → Re
 leads_on ends step table s (t, here, marked) = (t, Contains-append_left ends (step ∷ []) (record { from = s; to = t }) here, marked)
 
 -- a step to where the table is true
-marked_push : (ends : List Ends) (step : Ends) (table before : List Bool) → IsMarked ends table before → IsTrueAt table step.to → IsMarked (ends ++ step ∷ []) table (slice_set before step.from true)
-marked_push ends step table before old there = record { reaches = λ s within. let inside : s < length before = omega (arith, length-set {A = Bool}) in (marked s inside, unmarked s inside) }
+marked_push : (ends : List Ends) (step : Ends) (table before : List Bool) → IsMarked ends table before → IsTrueAt table step.to
+    → IsMarked (ends ++ step ∷ []) table (slice_set before step.from true)
+marked_push ends step table before old there = record {
+  reaches = λ s within. let inside : s < length before = omega (arith, length-set {A = Bool}) in
+      (marked s inside, unmarked s inside);
+}
   where
     marked : (s : ℕ) → s < length before → IsTrueAt (slice_set before step.from true) s → ReachesTrue (ends ++ step ∷ []) table s
     marked s inside is = by (cases_eq s step.from)
@@ -48,14 +52,19 @@ marked_push ends step table before old there = record { reaches = λ s within. l
     unmarked : (s : ℕ) → s < length before → ReachesTrue (ends ++ step ∷ []) table s → IsTrueAt (slice_set before step.from true) s
     unmarked s inside (t, here, is) = by (cases_eq s step.from) (Contains-push_cases ends step (record { from = s; to = t }) here)
       where
-        by : (s ≡ step.from) ⊎ (s ≡ step.from → ⊥) → Contains ends (record { from = s; to = t }) ⊎ (step ≡ record { from = s; to = t }) → IsTrueAt (slice_set before step.from true) s
+        by : (s ≡ step.from) ⊎ (s ≡ step.from → ⊥) → Contains ends (record { from = s; to = t }) ⊎ (step ≡ record { from = s; to = t })
+            → IsTrueAt (slice_set before step.from true) s
         by (inl e) other = get_or-set_at before step.from s true false e (subst (λ s. s < length before) e inside)
         by (inr e) (inl earlier) = get_or-set_other before step.from s true false e ∙ (old.reaches s inside).1 (t, earlier, is)
         by (inr e) (inr this) = absurd (e (sym (ap (λ (step : Ends). step.from) this)))
 
 -- a step to where the table is false
-skipped_push : (ends : List Ends) (step : Ends) (table before : List Bool) → IsMarked ends table before → ¬ IsTrueAt table step.to → IsMarked (ends ++ step ∷ []) table before
-skipped_push ends step table before old other = record { reaches = λ s within. (λ is. leads_on ends step table s ((old.reaches s within).0 is), unmarked s within) }
+skipped_push : (ends : List Ends) (step : Ends) (table before : List Bool) → IsMarked ends table before → ¬ IsTrueAt table step.to
+    → IsMarked (ends ++ step ∷ []) table before
+skipped_push ends step table before old other = record {
+  reaches = λ s within.
+      (λ is. leads_on ends step table s ((old.reaches s within).0 is), unmarked s within);
+}
   where
     unmarked : (s : ℕ) → s < length before → ReachesTrue (ends ++ step ∷ []) table s → IsTrueAt before s
     unmarked s inside (t, here, is) = by (Contains-push_cases ends step (record { from = s; to = t }) here)
@@ -69,13 +78,17 @@ skipped_push ends step table before old other = record { reaches = λ s within. 
 abbrev pub no_ends : Ends
 no_ends = record { from = 0; to = 0 }
 
-pub marked_more : (ends : List Ends) (k : ℕ) (table before : List Bool) (set : Bool) → k < length ends → IsMarked (take k ends) table before → get_or table (get_or ends k no_ends).to false ≡ set
+pub marked_more : (ends : List Ends) (k : ℕ) (table before : List Bool) (set : Bool) → k < length ends → IsMarked (take k ends) table before
+    → get_or table (get_or ends k no_ends).to false ≡ set
     → IsMarked (take (k + 1) ends) table (if set then slice_set before (get_or ends k no_ends).from true else before)
-marked_more ends k table before true within old there = rw (take_more ends k no_ends within) (marked_push (take k ends) (get_or ends k no_ends) table before old there)
-marked_more ends k table before false within old unset = rw (take_more ends k no_ends within) (skipped_push (take k ends) (get_or ends k no_ends) table before old (λ set. cc))
+marked_more ends k table before true within old there = rw (take_more ends k no_ends within)
+    (marked_push (take k ends) (get_or ends k no_ends) table before old there)
+marked_more ends k table before false within old unset = rw (take_more ends k no_ends within)
+    (skipped_push (take k ends) (get_or ends k no_ends) table before old (λ set. cc))
 
 -- ---- the steps under a label
-pub before_marked : (steps : List Step) (label : Label) (ends : List Ends) (table before : List Bool) → AreEndsUnder steps label ends → IsMarked ends table before → IsBefore steps label table before
+pub before_marked : (steps : List Step) (label : Label) (ends : List Ends) (table before : List Bool) → AreEndsUnder steps label ends
+    → IsMarked ends table before → IsBefore steps label table before
 before_marked steps label ends table before under marked = record {
   leads = λ s within. (
     λ is. let (t, here, there) = (marked.reaches s within).0 is in (t, under.only s t here, there),
@@ -88,9 +101,14 @@ pub record AreStates (states : ℕ) (step : Ends) : Type 0 where
   pub from : step.from < states
   pub to : step.to < states
 
-pub are_states : (system : System) (label : Label) (ends : List Ends) (k : ℕ) → IsWhole system → AreEndsUnder system.steps label ends → k < length ends → AreStates system.states (get_or ends k no_ends)
+pub are_states : (system : System) (label : Label) (ends : List Ends) (k : ℕ) → IsWhole system → AreEndsUnder system.steps label ends → k < length ends
+    → AreStates system.states (get_or ends k no_ends)
 are_states system label ends k whole under within =
     let step = get_or ends k no_ends in
     let here = under.only step.from step.to (k, within, get_or_default ends k step no_ends within) in
     let origin : Step = record { source = step.from; label = label; target = step.to } in
-    record { from = All-contains (λ (step : Step). step.source < system.states) system.steps origin whole.sources here; to = All-contains (λ (step : Step). step.target < system.states) system.steps origin whole.targets here }
+    record {
+      from = All-contains (λ (step : Step). step.source < system.states) system.steps origin whole.sources here;
+      to = All-contains
+          (λ (step : Step). step.target < system.states) system.steps origin whole.targets here;
+    }

@@ -79,7 +79,8 @@ no_split left right e (to_right {right = others} d) clause clauses = no_clause e
 
 -- with one less of weighted depth it is not
 not_Affords-dear : ¬ Affords dear one_step behind 0 (1 ∷ []) (seven 9 9 9 9 9 9 4)
-not_Affords-dear (inl (label, t, h, (f, listed, l))) = let heavy : weight_of dear label ≡ 5 = subst (λ x. weight_of dear x ≡ 5) (only_step label t h) refl in omega arith
+not_Affords-dear (inl (label, t, h, (f, listed, l))) = let heavy : weight_of dear label ≡ 5 = subst (λ x. weight_of dear x ≡ 5)
+    (only_step label t h) refl in omega arith
 not_Affords-dear (inr (b, (left, right, divided, clause, clauses), l)) =
     no_split left right b divided (λ n. let h = clause n in (h.0, h.1)) clauses
 

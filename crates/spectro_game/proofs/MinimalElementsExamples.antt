@@ -7,7 +7,8 @@ use Rattle.spectro_spec.proofs.Samples.{six, seven}
 
 -- each has 1 in one part alone, from the last part on
 abbrev ones : List Price
-ones = seven 0 0 0 0 0 0 1 ∷ seven 0 0 0 0 0 1 0 ∷ seven 0 0 0 0 1 0 0 ∷ seven 0 0 0 1 0 0 0 ∷ seven 0 0 1 0 0 0 0 ∷ seven 0 1 0 0 0 0 0 ∷ seven 1 0 0 0 0 0 0 ∷ []
+ones = seven 0 0 0 0 0 0 1 ∷ seven 0 0 0 0 0 1 0 ∷ seven 0 0 0 0 1 0 0 ∷ seven 0 0 0 1 0 0 0 ∷ seven 0 0 1 0 0 0 0 ∷ seven 0 1 0 0 0 0 0 ∷ seven 1 0 0 0 0 0
+    0 ∷ []
 
 is_at_most-one_part_more : map (is_at_most zero_price) ones ≡ true ∷ true ∷ true ∷ true ∷ true ∷ true ∷ true ∷ []
 is_at_most-one_part_more = refl
@@ -47,13 +48,16 @@ minimal_elements-twice : minimal_elements (six 1 2 1 0 0 0 ∷ six 1 2 1 0 0 0 �
 minimal_elements-twice = refl
 
 -- those that differ in two parts stay, and what one of them is at most goes
-minimal_elements-three : minimal_elements (seven 1 0 0 0 0 0 0 ∷ seven 0 1 0 0 0 0 0 ∷ seven 1 1 0 0 0 0 0 ∷ []) ≡ seven 0 1 0 0 0 0 0 ∷ seven 1 0 0 0 0 0 0 ∷ []
+minimal_elements-three : minimal_elements
+    (seven 1 0 0 0 0 0 0 ∷ seven 0 1 0 0 0 0 0 ∷ seven 1 1 0 0 0 0 0 ∷ []) ≡ seven 0 1 0 0 0 0 0 ∷ seven 1 0 0 0 0 0 0 ∷ []
 minimal_elements-three = refl
 
-minimal_elements-greater_first : minimal_elements (seven 1 1 0 0 0 0 0 ∷ seven 1 0 0 0 0 0 0 ∷ seven 0 1 0 0 0 0 0 ∷ []) ≡ seven 0 1 0 0 0 0 0 ∷ seven 1 0 0 0 0 0 0 ∷ []
+minimal_elements-greater_first : minimal_elements
+    (seven 1 1 0 0 0 0 0 ∷ seven 1 0 0 0 0 0 0 ∷ seven 0 1 0 0 0 0 0 ∷ []) ≡ seven 0 1 0 0 0 0 0 ∷ seven 1 0 0 0 0 0 0 ∷ []
 minimal_elements-greater_first = refl
 
-minimal_elements-greater_between : minimal_elements (seven 0 1 0 0 0 0 0 ∷ seven 1 1 0 0 0 0 0 ∷ seven 1 0 0 0 0 0 0 ∷ []) ≡ seven 0 1 0 0 0 0 0 ∷ seven 1 0 0 0 0 0 0 ∷ []
+minimal_elements-greater_between : minimal_elements
+    (seven 0 1 0 0 0 0 0 ∷ seven 1 1 0 0 0 0 0 ∷ seven 1 0 0 0 0 0 0 ∷ []) ≡ seven 0 1 0 0 0 0 0 ∷ seven 1 0 0 0 0 0 0 ∷ []
 minimal_elements-greater_between = refl
 
 -- one that is less than both of the others takes their place

@@ -62,7 +62,8 @@ not_IsFollower-no_subset h =
     omega arith
 
 -- nothing follows
-only_follows : {p p' : ℕ} {qs qs' : List ℕ} → IsOneOf (pair 1 [] ∷ []) p qs → IsFollower one_step p qs p' qs' → Contains (followers one_step (pair 1 [])) (pair p' qs')
+only_follows : {p p' : ℕ} {qs qs' : List ℕ} → IsOneOf (pair 1 [] ∷ []) p qs → IsFollower one_step p qs p' qs'
+    → Contains (followers one_step (pair 1 [])) (pair p' qs')
 only_follows {p} {p'} {qs} {qs'} is_one follows =
     only_member (λ (x : Pair). Contains (followers one_step x) (pair p' qs') → Contains (followers one_step (pair 1 [])) (pair p' qs'))
     (pair 1 []) (pair p qs) (λ h. h) is_one follows

@@ -67,7 +67,8 @@ row_inside (suc (suc zero)) (suc (suc r)) y h = cc
 row_inside (suc (suc (suc i))) r y h = cc
 
 -- where no earlier follower of the start is y
-pub found_by_start : (rest : List Pair) (r : ℕ) (y : Pair) → StandsAt (row 0) r y → ((t : ℕ) → t < r → StandsAt (row 0) t y → ⊥) → IsFoundAt follow (begun rest) 0 r y
+pub found_by_start : (rest : List Pair) (r : ℕ) (y : Pair) → StandsAt (row 0) r y → ((t : ℕ) → t < r → StandsAt (row 0) t y → ⊥)
+    → IsFoundAt follow (begun rest) 0 r y
 found_by_start rest r y here none = record {
   follows = follows-start rest r y here;
   finder = λ h t early f. omega arith;

@@ -48,7 +48,8 @@ AreLeastPrices-no_set = record {
   prices = λ e member. only_member (λ f. (formula : Formula) × Distinguishes one_step 1 [] formula × (price [] formula ≡ f)) (six 0 1 0 0 0 0) e
       (true_everywhere, record { satisfied = tt; refuted = λ q none. absurd (Contains-none q none) }, refl) member;
   covers = λ formula d. let h = conjunctions-at_least_one [] formula in (six 0 1 0 0 0 0, Contains-first (six 0 1 0 0 0 0) [], omega arith);
-  apart = λ e f e_member f_member h. only_member (λ g. g ≡ f) (six 0 1 0 0 0 0) e (only_member (λ g. six 0 1 0 0 0 0 ≡ g) (six 0 1 0 0 0 0) f refl f_member) e_member;
+  apart = λ e f e_member f_member h. only_member (λ g. g ≡ f) (six 0 1 0 0 0 0) e
+      (only_member (λ g. six 0 1 0 0 0 0 ≡ g) (six 0 1 0 0 0 0) f refl f_member) e_member;
 }
 
 IsSolved-no_set : IsSolved [] one_step (pair 1 [] ∷ []) ((six 0 1 0 0 0 0 ∷ []) ∷ [])

@@ -42,4 +42,5 @@ Affords weighing system listing p qs e =
 
 -- at the known pairs the listing covers what its own backward step makes
 abbrev pub CoversItsStep : Weighing → System → (ℕ → List ℕ → Type 0) → Listing → Type 0
-CoversItsStep weighing system known listing = (p : ℕ) (qs : List ℕ) (e : Price) → known p qs → Affords weighing system listing p qs e → ListsAtMost listing p qs e
+CoversItsStep weighing system known listing = (p : ℕ) (qs : List ℕ) (e : Price) → known p qs → Affords weighing system listing p qs e
+    → ListsAtMost listing p qs e

@@ -23,12 +23,14 @@ abbrev pub observation_prices : Weighing → System → Table → List Step → 
 observation_prices weighing system table [] p qs = []
 observation_prices weighing system table (step ∷ steps) p qs =
     if step.source == p
-    then map (inverse (observe (weight_of weighing step.label))) (table step.target (post system qs step.label)) ++ observation_prices weighing system table steps p qs
+    then map (inverse (observe (weight_of weighing step.label)))
+    (table step.target (post system qs step.label)) ++ observation_prices weighing system table steps p qs
     else observation_prices weighing system table steps p qs
 
 -- what a clause that is true at p and false at q costs, positive or negative
 abbrev pub clause_prices : Table → ℕ → ℕ → List Price
-clause_prices table p q = map (inverse to_other) (map (inverse to_positive) (table p (q ∷ [])) ++ (if p == q then [] else map (inverse to_negative) (table q (p ∷ []))))
+clause_prices table p q = map (inverse to_other)
+    (map (inverse to_positive) (table p (q ∷ [])) ++ (if p == q then [] else map (inverse to_negative) (table q (p ∷ []))))
 
 -- what the clause that refutes the left part costs; there is none where that part is empty
 abbrev pub subset_prices : Table → ℕ → List ℕ → List (List Price)

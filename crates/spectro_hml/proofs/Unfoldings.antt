@@ -24,10 +24,12 @@ length-with_nodes formulas (node ∷ nodes) =
 pub length-formulas_of : (nodes : List SheetNode) → length (formulas_of nodes) ≡ length nodes
 length-formulas_of nodes = omega (arith, length-with_nodes [] nodes)
 
-pub formulas_of-push : (nodes : List SheetNode) (node : SheetNode) → formulas_of (nodes ++ node ∷ []) ≡ formulas_of nodes ++ formula_of_node (formulas_of nodes) node ∷ []
+pub formulas_of-push : (nodes : List SheetNode) (node : SheetNode)
+    → formulas_of (nodes ++ node ∷ []) ≡ formulas_of nodes ++ formula_of_node (formulas_of nodes) node ∷ []
 formulas_of-push nodes node = fold_push with_node [] nodes node
 
-kept-with_nodes : (formulas : List Formula) (more : List SheetNode) (k : ℕ) → k < length formulas → formula_at (fold with_node formulas more) k ≡ formula_at formulas k
+kept-with_nodes : (formulas : List Formula) (more : List SheetNode) (k : ℕ) → k < length formulas
+    → formula_at (fold with_node formulas more) k ≡ formula_at formulas k
 kept-with_nodes formulas [] k within = refl
 kept-with_nodes formulas (node ∷ more) k within =
     let longer = length_push formulas (formula_of_node formulas node) in
@@ -53,7 +55,8 @@ slice_get-last (first ∷ nodes) node = slice_get-last nodes node
 pub IsSheet-push : (nodes : List SheetNode) (node : SheetNode) → IsSheet nodes → IsNodeAt (length nodes) node → IsSheet (nodes ++ node ∷ [])
 IsSheet-push nodes node sheet may = λ place other at. by place other at (cases_lt place (length nodes))
   where
-    by : (place : ℕ) (other : SheetNode) → slice_get (nodes ++ node ∷ []) place ≡ Some other → (place < length nodes) ⊎ (length nodes ≤ place) → IsNodeAt place other
+    by : (place : ℕ) (other : SheetNode) → slice_get (nodes ++ node ∷ []) place ≡ Some other → (place < length nodes) ⊎ (length nodes ≤ place)
+        → IsNodeAt place other
     by place other at (inl within) = sheet place other (sym (slice_get-front nodes (node ∷ []) place within) ∙ at)
     by place other at (inr past) =
         let last : length nodes ≡ place = omega (arith, slice_get_within (nodes ++ node ∷ []) place other at, length_push nodes node) in
@@ -62,21 +65,25 @@ IsSheet-push nodes node sheet may = λ place other at. by place other at (cases_
 
 -- ---- the clauses of a conjunction
 -- clauses whose nodes have the same formulas are the same
-pub clauses_of-agree : (one other : List Formula) (clauses : List Clause) → All (λ clause. formula_at one clause.node ≡ formula_at other clause.node) clauses → clauses_of one clauses ≡ clauses_of other clauses
+pub clauses_of-agree : (one other : List Formula) (clauses : List Clause)
+    → All (λ clause. formula_at one clause.node ≡ formula_at other clause.node) clauses → clauses_of one clauses ≡ clauses_of other clauses
 clauses_of-agree one other [] same = refl
 clauses_of-agree one other (clause ∷ clauses) same =
     let here = All-head (λ clause. formula_at one clause.node ≡ formula_at other clause.node) clause clauses same in
     let rest = clauses_of-agree one other clauses (All-tail (λ clause. formula_at one clause.node ≡ formula_at other clause.node) clause clauses same) in
     rw (here, rest) refl
 
-pub clauses_of-plus : (nodes : List SheetNode) (clause : Clause) (clauses : List Clause) → clause.positive ≡ true → clauses_of (formulas_of nodes) (clause ∷ clauses) ≡ plus (unfolded nodes clause.node) (clauses_of (formulas_of nodes) clauses)
+pub clauses_of-plus : (nodes : List SheetNode) (clause : Clause) (clauses : List Clause) → clause.positive ≡ true
+    → clauses_of (formulas_of nodes) (clause ∷ clauses) ≡ plus (unfolded nodes clause.node) (clauses_of (formulas_of nodes) clauses)
 clauses_of-plus nodes clause clauses positive = rw positive refl
 
-pub clauses_of-minus : (nodes : List SheetNode) (clause : Clause) (clauses : List Clause) → clause.positive ≡ false → clauses_of (formulas_of nodes) (clause ∷ clauses) ≡ minus (unfolded nodes clause.node) (clauses_of (formulas_of nodes) clauses)
+pub clauses_of-minus : (nodes : List SheetNode) (clause : Clause) (clauses : List Clause) → clause.positive ≡ false
+    → clauses_of (formulas_of nodes) (clause ∷ clauses) ≡ minus (unfolded nodes clause.node) (clauses_of (formulas_of nodes) clauses)
 clauses_of-minus nodes clause clauses negative = rw negative refl
 
 -- the formulas before a node's place are enough
-pub clause_formula : (nodes : List SheetNode) (k : ℕ) (clause : Clause) → k ≤ length nodes → clause.node < k → formula_at (formulas_of (take k nodes)) clause.node ≡ unfolded nodes clause.node
+pub clause_formula : (nodes : List SheetNode) (k : ℕ) (clause : Clause) → k ≤ length nodes → clause.node < k
+    → formula_at (formulas_of (take k nodes)) clause.node ≡ unfolded nodes clause.node
 clause_formula nodes k clause within below =
     let here : clause.node < length (take k nodes) = omega (arith, below, length-take-le k nodes within) in
     sym (unfolded-push (take k nodes) (drop k nodes) clause.node here) ∙ ap (λ nodes. unfolded nodes clause.node) (take-append-drop k nodes)

@@ -27,7 +27,8 @@ formula_at formulas k = slice_index_or formulas k (all no_clauses)
 abbrev pub clauses_of : List Formula → List Clause → Clauses
 clauses_of formulas [] = no_clauses
 clauses_of formulas (clause ∷ clauses) =
-    if clause.positive then plus (formula_at formulas clause.node) (clauses_of formulas clauses) else minus (formula_at formulas clause.node) (clauses_of formulas clauses)
+    if clause.positive then plus (formula_at formulas clause.node) (clauses_of formulas clauses) else minus (formula_at formulas clause.node)
+    (clauses_of formulas clauses)
 
 -- the formula of a node, where these are the formulas of those before it
 abbrev pub formula_of_node : List Formula → SheetNode → Formula

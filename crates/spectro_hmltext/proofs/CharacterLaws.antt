@@ -36,7 +36,9 @@ All-has_line_feed (byte ∷ bytes) none =
     All-cons (λ byte. byte ≢ 10) byte bytes (eqb-false byte 10 parts.0) (All-has_line_feed bytes parts.1)
 
 pub has_line_feed-none : (bytes : List ℕ) → ¬ Contains bytes 10 → has_line_feed bytes ≡ false
-has_line_feed-none bytes none = list_any_none (λ byte. byte == 10) bytes (All-from_get_or (λ byte. (byte == 10) ≡ false) bytes 0 (λ i within. ne_eqb (get_or bytes i 0) 10 (λ e. none (subst (Contains bytes) e (Contains-get_or bytes i 0 within)))))
+has_line_feed-none bytes none = list_any_none (λ byte. byte == 10) bytes
+    (All-from_get_or (λ byte. (byte == 10) ≡ false) bytes 0
+    (λ i within. ne_eqb (get_or bytes i 0) 10 (λ e. none (subst (Contains bytes) e (Contains-get_or bytes i 0 within)))))
 
 -- what stands for a label is one
 pub IsLabel-quoted : (inside label : List ℕ) → IsQuoted inside label → IsLabel label
@@ -73,10 +75,12 @@ pub begins-from_range : (byte : ℕ) → (128 ≤ byte → 192 ≤ byte) → (na
 begins-from_range byte range = grind (arith, nat_tests)
 
 All-continuation : (bytes : List ℕ) → All IsContinuation (continuation_of bytes)
-All-continuation bytes = All-from_get_or IsContinuation (continuation_of bytes) 0 (λ i within. by i (omega (arith, within, length-take (position_or_len begins_character bytes) bytes)))
+All-continuation bytes = All-from_get_or IsContinuation (continuation_of bytes) 0
+    (λ i within. by i (omega (arith, within, length-take (position_or_len begins_character bytes) bytes)))
   where
     by : (i : ℕ) → i < position_or_len begins_character bytes → IsContinuation (get_or (continuation_of bytes) i 0)
-    by i within = subst IsContinuation (sym (get_or-take (position_or_len begins_character bytes) bytes i 0 within)) (continuation-range (get_or bytes i 0) (fails_before_first begins_character bytes i 0 within))
+    by i within = subst IsContinuation (sym (get_or-take (position_or_len begins_character bytes) bytes i 0 within))
+        (continuation-range (get_or bytes i 0) (fails_before_first begins_character bytes i 0 within))
 
 -- ---- a character with its escape
 -- the first two bytes
@@ -88,10 +92,16 @@ two_bytes (first ∷ byte ∷ rest) more begins long =
     ap (λ first. first ∷ byte ∷ rest) (ap (λ l. get_or l 0 0) begins) ∙ ap (λ rest. 92 ∷ byte ∷ rest) (sym whole)
 
 is_quote_or_backslash : (byte : ℕ) → is_escaped byte ≡ true → (byte ≡ 34) ⊎ (byte ≡ 92)
-is_quote_or_backslash byte special = elim (or_cases (byte == 34) (byte == 92) special) [ inl quote ↦ inl (eqb-true byte 34 quote) | inr backslash ↦ inr (eqb-true byte 92 backslash) ]
+is_quote_or_backslash byte special = elim
+    (or_cases (byte == 34) (byte == 92) special) [ inl quote ↦ inl (eqb-true byte 34 quote) | inr backslash ↦ inr (eqb-true byte 92 backslash) ]
 
 is_small : (byte : ℕ) → is_escaped byte ≡ true → (byte < 128) × (byte ≢ 10)
-is_small byte special = elim (is_quote_or_backslash byte special) [ inl quote ↦ (omega arith, λ line. absurd (omega arith)) | inr backslash ↦ (omega arith, λ line. absurd (omega arith)) ]
+is_small byte special = elim
+    (is_quote_or_backslash byte special) [
+      | inl quote ↦ (omega arith, λ line. absurd (omega arith))
+      | inr backslash ↦
+          (omega arith, λ line. absurd (omega arith))
+    ]
 
 module _ (text : List ℕ) (byte : ℕ) (rest : List ℕ) (cut : text ≡ 92 ∷ byte ∷ rest) (bytes : ℕ) where
   pub escape-IsTaken : is_escaped byte ≡ true → IsUtf8 text → bytes + 1 ≤ 8192 → IsTaken text bytes (bytes + 1) rest
@@ -108,8 +118,10 @@ module _ (text : List ℕ) (byte : ℕ) (rest : List ℕ) (cut : text ≡ 92 ∷
         utf8 = utf8_behind (92 ∷ []) byte rest small.0 (subst IsUtf8 cut utf8);
       }
 
-  pub escape-too_long : is_escaped byte ≡ true → (left : List ℕ) (kind : TextKind) → IsTooLong text (bytes + 1) left kind → IsCharacterFault text bytes left kind
-  escape-too_long special left kind long = λ label same. IsCutLabel.escape_over byte rest cut (is_quote_or_backslash byte special) (omega (arith, long.2)) long.0 long.1
+  pub escape-too_long : is_escaped byte ≡ true → (left : List ℕ) (kind : TextKind) → IsTooLong text (bytes + 1) left kind
+      → IsCharacterFault text bytes left kind
+  escape-too_long special left kind long = λ label same. IsCutLabel.escape_over byte rest cut (is_quote_or_backslash byte special)
+      (omega (arith, long.2)) long.0 long.1
 
   pub no_escape-fault : is_escaped byte ≡ false → IsCharacterFault text bytes text BadLabel
   no_escape-fault special =
@@ -121,7 +133,8 @@ module _ (text : List ℕ) (byte : ℕ) (rest : List ℕ) (cut : text ≡ 92 ∷
 pub rest_of : (n : ℕ) (text : List ℕ) → take (length text - n) (drop n text) ≡ drop n text
 rest_of n text = ap (λ size. take size (drop n text)) (sym (length-drop n text)) ∙ take-length (drop n text)
 
-module _ (text : List ℕ) (byte : ℕ) (more : List ℕ) (cut : text ≡ byte ∷ more) (no_quote : byte ≢ 34) (no_backslash : byte ≢ 92) (no_line_feed : byte ≢ 10) (utf8 : IsUtf8 text) where
+module _ (text : List ℕ) (byte : ℕ) (more : List ℕ) (cut : text ≡ byte ∷ more) (no_quote : byte ≢ 34) (no_backslash : byte ≢ 92) (no_line_feed : byte ≢ 10)
+    (utf8 : IsUtf8 text) where
   abbrev found : ℕ
   found = position_or_len begins_character more
 
@@ -140,7 +153,8 @@ module _ (text : List ℕ) (byte : ℕ) (more : List ℕ) (cut : text ≡ byte �
       ap (drop (1 + behind)) cut ∙ ap (λ n. drop n (byte ∷ more)) next ∙ ap (drop behind) whole ∙ drop-append_seam (continuation_of more) back
 
   first_begins : 128 ≤ byte → 192 ≤ byte
-  first_begins above = let boundary : IsCharBoundary (byte ∷ more) 0 = IsCharBoundary-start (byte ∷ more) (subst IsUtf8 cut utf8) in boundary.1 (omega arith) above
+  first_begins above = let boundary : IsCharBoundary (byte ∷ more) 0 = IsCharBoundary-start (byte ∷ more) (subst IsUtf8 cut utf8) in boundary.1
+      (omega arith) above
 
   boundary : IsCharBoundary text (1 + behind)
   boundary = (omega (arith, ap length cut, length-take found more), next)
@@ -157,15 +171,18 @@ module _ (text : List ℕ) (byte : ℕ) (more : List ℕ) (cut : text ≡ byte �
           omega (arith, at, here, begins-range (get_or more found 0) begins, above)
 
   All-character : (P : ℕ → Type 0) → P byte → ((other : ℕ) → 127 < other → P other) → All P (byte ∷ continuation_of more)
-  All-character P here others = All-cons P byte (continuation_of more) here (All-weaker IsContinuation P (λ other range. others other range.0) (continuation_of more) (All-continuation more))
+  All-character P here others = All-cons P byte (continuation_of more) here
+      (All-weaker IsContinuation P (λ other range. others other range.0) (continuation_of more) (All-continuation more))
 
   pub plain-IsTaken : (bytes n : ℕ) (rest : List ℕ) → n ≡ behind → rest ≡ drop (1 + n) text → bytes + (1 + n) ≤ 8192 → IsTaken text bytes (bytes + (1 + n)) rest
   plain-IsTaken bytes n rest is ends short =
-      let stands : escaped (byte ∷ continuation_of more) ≡ byte ∷ continuation_of more = escaped-plain (byte ∷ continuation_of more) (All-character IsPlain (no_quote, no_backslash) (λ other above. (λ e. absurd (omega arith), λ e. absurd (omega arith)))) in
+      let stands : escaped (byte ∷ continuation_of more) ≡ byte ∷ continuation_of more = escaped-plain (byte ∷ continuation_of more)
+      (All-character IsPlain (no_quote, no_backslash) (λ other above. (λ e. absurd (omega arith), λ e. absurd (omega arith)))) in
       let ends_so : rest ≡ back = ends ∙ ap (λ n. drop (1 + n) text) is ∙ back-is in
       record {
         character = byte ∷ continuation_of more;
-        whole = cut ∙ ap (λ more. byte ∷ more) whole ∙ ap (λ rest. (byte ∷ continuation_of more) ++ rest) (sym ends_so) ∙ ap (λ front. front ++ rest) (sym stands);
+        whole = cut ∙ ap (λ more. byte ∷ more) whole ∙ ap (λ rest. (byte ∷ continuation_of more) ++ rest) (sym ends_so)
+            ∙ ap (λ front. front ++ rest) (sym stands);
         some = omega arith;
         added = omega arith;
         short = short;
@@ -173,14 +190,18 @@ module _ (text : List ℕ) (byte : ℕ) (more : List ℕ) (cut : text ≡ byte �
         utf8 = subst IsUtf8 (back-is ∙ sym ends_so) (IsUtf8-drop text (1 + behind) utf8 boundary);
       }
 
-  pub plain-too_long : (bytes n : ℕ) → n ≡ behind → (left : List ℕ) (kind : TextKind) → IsTooLong text (bytes + (1 + n)) left kind → IsCharacterFault text bytes left kind
-  plain-too_long bytes n is left kind long = λ label same. IsCutLabel.character_over byte more cut no_quote no_backslash (begins-from_range byte first_begins) (omega (arith, long.2, is, same)) long.0 long.1
+  pub plain-too_long : (bytes n : ℕ) → n ≡ behind → (left : List ℕ) (kind : TextKind) → IsTooLong text (bytes + (1 + n)) left kind
+      → IsCharacterFault text bytes left kind
+  plain-too_long bytes n is left kind long = λ label same. IsCutLabel.character_over byte more cut no_quote no_backslash
+      (begins-from_range byte first_begins) (omega (arith, long.2, is, same)) long.0 long.1
 
 -- ---- what is answered for a character
 pub taken_within : (text rest : List ℕ) (before bytes : ℕ) (result : Result (Option Taken) Stop)
     → IfOk result (λ next. MatchOption next ⊥ (λ taken. (taken.bytes ≡ bytes) × (taken.rest.now ≡ rest) × (bytes ≤ 8192)))
-    → (bytes ≤ 8192 → IsTaken text before bytes rest) → IfOk result (λ next. MatchOption next (BeginsWithQuote text) (λ taken. IsTaken text before taken.bytes taken.rest.now))
-taken_within text rest before bytes (Ok (Some taken)) told is = subst (λ n. IsTaken text before n taken.rest.now) (sym told.0) (subst (IsTaken text before bytes) (sym told.1) (is told.2))
+    → (bytes ≤ 8192 → IsTaken text before bytes rest)
+    → IfOk result (λ next. MatchOption next (BeginsWithQuote text) (λ taken. IsTaken text before taken.bytes taken.rest.now))
+taken_within text rest before bytes (Ok (Some taken)) told is = subst (λ n. IsTaken text before n taken.rest.now) (sym told.0)
+    (subst (IsTaken text before bytes) (sym told.1) (is told.2))
 taken_within text rest before bytes (Ok None) told is = absurd told
 taken_within text rest before bytes (Err stop) told is = tt
 
@@ -197,30 +218,37 @@ module _ (inside : List ℕ) (bytes : ℕ) (rest : List ℕ) (walked : IsWalked 
   pub IsWalked-more : (size : ℕ) (next : List ℕ) → IsTaken rest bytes size next → IsWalked inside size next
   IsWalked-more size next taken = record {
     label = walked.label ++ taken.character;
-    whole = walked.whole ∙ ap (λ rest. escaped walked.label ++ rest) taken.whole ∙ sym (append_assoc (escaped walked.label) (escaped taken.character) next) ∙ ap (λ front. front ++ next) (sym (escaped-append walked.label taken.character));
+    whole = walked.whole ∙ ap (λ rest. escaped walked.label ++ rest) taken.whole ∙ sym (append_assoc (escaped walked.label) (escaped taken.character) next)
+        ∙ ap (λ front. front ++ next) (sym (escaped-append walked.label taken.character));
     size = length-append walked.label taken.character ∙ ap (λ n. n + length taken.character) walked.size ∙ sym taken.added;
     is_label = record {
       short = omega (arith, length-append walked.label taken.character, walked.size, taken.added, taken.short);
-      one_line = λ contains. elim (Contains-append_cases walked.label taken.character 10 contains) [ inl before ↦ walked.is_label.one_line before | inr in' ↦ taken.one_line in' ];
+      one_line = λ contains. elim
+          (Contains-append_cases walked.label taken.character 10 contains) [ inl before ↦ walked.is_label.one_line before | inr in' ↦ taken.one_line in' ];
     };
     utf8 = taken.utf8;
   }
 
   pub IsCutBehind-walked : (left : List ℕ) (kind : TextKind) → IsCharacterFault rest bytes left kind → IsCutBehind inside left kind
-  IsCutBehind-walked left kind fault = record { label = walked.label; after = rest; whole = walked.whole; is_label = walked.is_label; cut = fault walked.label walked.size }
+  IsCutBehind-walked left kind fault = record
+      { label = walked.label; after = rest; whole = walked.whole; is_label = walked.is_label; cut = fault walked.label walked.size }
 
 -- where the label ends its text is cut
-pub closed-parts : (inside : List ℕ) (end : ℕ) (closed : IsClosedAt inside end) → (take end inside ≡ escaped closed.label) × (drop (end + 1) inside ≡ closed.rest) × (end < length inside)
+pub closed-parts : (inside : List ℕ) (end : ℕ) (closed : IsClosedAt inside end)
+    → (take end inside ≡ escaped closed.label) × (drop (end + 1) inside ≡ closed.rest) × (end < length inside)
 closed-parts inside end closed = (front, back, omega (arith, closed.place, ap length closed.whole, length-append (escaped closed.label) (34 ∷ closed.rest)))
   where
     front : take end inside ≡ escaped closed.label
-    front = ap (λ n. take n inside) closed.place ∙ ap (take (length (escaped closed.label))) closed.whole ∙ take-append_seam (escaped closed.label) (34 ∷ closed.rest)
+    front = ap (λ n. take n inside) closed.place ∙ ap (take (length (escaped closed.label))) closed.whole
+        ∙ take-append_seam (escaped closed.label) (34 ∷ closed.rest)
 
     long : end + 1 ≡ length (escaped closed.label ++ 34 ∷ [])
     long = omega (arith, closed.place, length-append (escaped closed.label) (34 ∷ []))
 
     back : drop (end + 1) inside ≡ closed.rest
-    back = ap (λ n. drop n inside) long ∙ ap (drop (length (escaped closed.label ++ 34 ∷ []))) (closed.whole ∙ sym (append_assoc (escaped closed.label) (34 ∷ []) closed.rest)) ∙ drop-append_seam (escaped closed.label ++ 34 ∷ []) closed.rest
+    back = ap (λ n. drop n inside) long
+        ∙ ap (drop (length (escaped closed.label ++ 34 ∷ []))) (closed.whole ∙ sym (append_assoc (escaped closed.label) (34 ∷ []) closed.rest))
+        ∙ drop-append_seam (escaped closed.label ++ 34 ∷ []) closed.rest
 
 -- ---- a line feed
 pub line_feed-fault : (text : List ℕ) (bytes : ℕ) → 1 ≤ length text → get_or text 0 0 ≡ 10 → IsCharacterFault text bytes text BadLabel
@@ -229,13 +257,15 @@ line_feed-fault (byte ∷ more) bytes some first = λ label same. IsCutLabel.lin
 
 -- ---- the label behind its opening quote
 module _ (text inside : List ℕ) (opens : skip_blanks text ≡ 34 ∷ inside) where
-  pub stands_where_closed : (end : ℕ) → IsClosedAt inside end → (quoted label rest : List ℕ) → quoted ≡ take end inside → rest ≡ drop (end + 1) inside → IsQuoted quoted label → StandsLabel text label rest
+  pub stands_where_closed : (end : ℕ) → IsClosedAt inside end → (quoted label rest : List ℕ) → quoted ≡ take end inside → rest ≡ drop (end + 1) inside
+      → IsQuoted quoted label → StandsLabel text label rest
   stands_where_closed end closed quoted label rest front back is =
       let parts = closed-parts inside end closed in
       let same : escaped closed.label ≡ escaped label = sym parts.0 ∙ sym front ∙ is.whole in
       let behind : closed.rest ≡ rest = sym parts.1 ∙ sym back in
       record {
-        whole = opens ∙ ap (λ inside. 34 ∷ inside) (closed.whole ∙ ap (λ front. front ++ 34 ∷ closed.rest) same ∙ ap (λ rest. escaped label ++ 34 ∷ rest) behind);
+        whole = opens ∙ ap (λ inside. 34 ∷ inside) (closed.whole ∙ ap (λ front. front ++ 34 ∷ closed.rest) same
+            ∙ ap (λ rest. escaped label ++ 34 ∷ rest) behind);
         is_label = IsLabel-quoted quoted label is;
       }
 
@@ -245,7 +275,13 @@ module _ (text inside : List ℕ) (opens : skip_blanks text ≡ 34 ∷ inside) w
 module _ (inside : List ℕ) (end : ℕ) (closed : IsClosedAt inside end) where
   -- what stands before the closing quote stands for the label
   pub quoted_where_closed : IsQuoted (take end inside) closed.label
-  quoted_where_closed = record { whole = (closed-parts inside end closed).0; short = closed.is_label.short; one_line = has_line_feed-none closed.label closed.is_label.one_line }
+  quoted_where_closed = record {
+    whole =
+        (closed-parts inside end closed).0;
+    short = closed.is_label.short;
+    one_line = has_line_feed-none closed.label closed.is_label.one_line;
+  }
 
   pub utf8_where_closed : IsUtf8 inside → IsUtf8 (take end inside)
-  utf8_where_closed utf8 = subst IsUtf8 (sym (closed-parts inside end closed).0) (utf8_before (escaped closed.label) 34 closed.rest (omega arith) (subst IsUtf8 closed.whole utf8))
+  utf8_where_closed utf8 = subst IsUtf8 (sym (closed-parts inside end closed).0)
+      (utf8_before (escaped closed.label) 34 closed.rest (omega arith) (subst IsUtf8 closed.whole utf8))

@@ -46,15 +46,22 @@ escape-cases text (byte ∷ rest) bytes cut utf8 =
       | inr plain ↦ inr (text, BadLabel, no_escape-fault text byte rest cut bytes plain)
     ]
 
-plain-cases : (text : List ℕ) (byte : ℕ) (more : List ℕ) (bytes : ℕ) → text ≡ byte ∷ more → byte ≢ 34 → byte ≢ 92 → byte ≢ 10 → IsUtf8 text → TakesOrFails text bytes
+plain-cases : (text : List ℕ) (byte : ℕ) (more : List ℕ) (bytes : ℕ) → text ≡ byte ∷ more → byte ≢ 34 → byte ≢ 92 → byte ≢ 10 → IsUtf8 text
+    → TakesOrFails text bytes
 plain-cases text byte more bytes cut quote backslash feed utf8 =
     elim (cases_lt 8192 (bytes + (1 + length (continuation_of more)))) [
-      | inl long ↦ inr (text, BadLabel, plain-too_long text byte more cut quote backslash feed utf8 bytes (length (continuation_of more)) refl text BadLabel (refl, refl, long))
+      | inl long ↦ inr (
+        text,
+        BadLabel,
+        plain-too_long text byte more cut quote backslash feed utf8 bytes (length (continuation_of more)) refl text BadLabel
+            (refl, refl, long),
+      )
       | inr short ↦
           inl (
             bytes + (1 + length (continuation_of more)),
             drop (1 + length (continuation_of more)) text,
-            plain-IsTaken text byte more cut quote backslash feed utf8 bytes (length (continuation_of more)) (drop (1 + length (continuation_of more)) text) refl refl short,
+            plain-IsTaken text byte more cut quote backslash feed utf8 bytes (length (continuation_of more))
+                (drop (1 + length (continuation_of more)) text) refl refl short,
           )
     ]
 
@@ -67,7 +74,8 @@ character-cases (byte ∷ more) bytes utf8 =
         | inl backslash ↦ inr (escape-cases (byte ∷ more) more bytes (ap (λ byte. byte ∷ more) (eqb-true byte 92 backslash)) utf8)
         | inr no_backslash ↦ elim (cases_Bool (byte == 10)) [
           | inl feed ↦ inr (inr (byte ∷ more, BadLabel, line_feed-fault (byte ∷ more) bytes (omega arith) (eqb-true byte 10 feed)))
-          | inr no_feed ↦ inr (plain-cases (byte ∷ more) byte more bytes refl (eqb-false byte 34 no_quote) (eqb-false byte 92 no_backslash) (eqb-false byte 10 no_feed) utf8)
+          | inr no_feed ↦ inr (plain-cases (byte ∷ more) byte more bytes refl (eqb-false byte 34 no_quote) (eqb-false byte 92 no_backslash)
+              (eqb-false byte 10 no_feed) utf8)
         ]
       ]
     ]
@@ -82,10 +90,12 @@ some-escaped (byte ∷ bytes) some = by (is_escaped byte) refl
     by false special = rw special (omega arith)
 
 shorter_taken : (text : List ℕ) (bytes size : ℕ) (rest : List ℕ) → IsTaken text bytes size rest → length rest < length text
-shorter_taken text bytes size rest taken = omega (arith, ap length taken.whole, length-append (escaped taken.character) rest, some-escaped taken.character taken.some)
+shorter_taken text bytes size rest taken = omega
+    (arith, ap length taken.whole, length-append (escaped taken.character) rest, some-escaped taken.character taken.some)
 
 -- the label ends at a quote, or is cut
-label_end-cases : (granted : ℕ) (inside : List ℕ) (bytes : ℕ) (rest : List ℕ) → length rest < granted → IsWalked inside bytes rest → ((end : ℕ) × IsClosedAt inside end) ⊎ HasFault (IsCutBehind inside)
+label_end-cases : (granted : ℕ) (inside : List ℕ) (bytes : ℕ) (rest : List ℕ) → length rest < granted → IsWalked inside bytes rest
+    → ((end : ℕ) × IsClosedAt inside end) ⊎ HasFault (IsCutBehind inside)
 label_end-cases zero inside bytes rest few walked = absurd (omega arith)
 label_end-cases (suc granted) inside bytes rest few walked =
     elim (character-cases rest bytes walked.utf8) [
@@ -101,7 +111,8 @@ label_end-cases (suc granted) inside bytes rest few walked =
             },
           )
       | inr next ↦ elim next [
-        | inl taken ↦ label_end-cases granted inside taken.0 taken.1 (omega (arith, few, shorter_taken rest bytes taken.0 taken.1 taken.2)) (IsWalked-more inside bytes rest walked taken.0 taken.1 taken.2)
+        | inl taken ↦ label_end-cases granted inside taken.0 taken.1 (omega (arith, few, shorter_taken rest bytes taken.0 taken.1 taken.2))
+            (IsWalked-more inside bytes rest walked taken.0 taken.1 taken.2)
         | inr fails ↦ inr (fails.0, fails.1, IsCutBehind-walked inside bytes rest walked fails.0 fails.1 fails.2)
       ]
     ]

@@ -61,12 +61,14 @@ module _ (P : Clause → Type 0) (decided : (clause : Clause) → Decided (P cla
       by _ (inr none) = inr (λ all. none (All-tail P clause clauses all))
 
 -- ---- observations
-quoted-cases : (text : List ℕ) → ((inside : List ℕ) × (rest : List ℕ) × BeginsQuoted text inside rest) ⊎ ((inside rest : List ℕ) → ¬ BeginsQuoted text inside rest)
+quoted-cases : (text : List ℕ)
+    → ((inside : List ℕ) × (rest : List ℕ) × BeginsQuoted text inside rest) ⊎ ((inside rest : List ℕ) → ¬ BeginsQuoted text inside rest)
 quoted-cases text =
     elim (quotes-cases (skip_blanks text)) [
       | inl begins ↦ elim (apart begins.1) [
         | inl is_apart ↦ inl (begins.0, begins.1, begins-quoted text begins.0 begins.1 begins.2 is_apart)
-        | inr joined ↦ inr (λ inside rest is. joined (subst IsApart (quotes-once (skip_blanks text) inside rest begins.0 begins.1 (quoted-begins text inside rest is) begins.2).1 is.apart))
+        | inr joined ↦ inr (λ inside rest is. joined
+            (subst IsApart (quotes-once (skip_blanks text) inside rest begins.0 begins.1 (quoted-begins text inside rest is) begins.2).1 is.apart))
       ]
       | inr none ↦ inr (λ inside rest is. none inside rest (quoted-begins text inside rest is))
     ]
@@ -83,13 +85,15 @@ observation-cases text =
           | inl end ↦ inl (quoted.0, number_value (first_token quoted.1), found-observation text quoted.0 quoted.1 quoted.2 number end)
           | inr more ↦ inr (no_end text quoted.0 quoted.1 quoted.2 (both_ways (list_all is_blank (after_token quoted.1)) more))
         ]
-        | inr other ↦ inr (λ inside next is. both_ways (is_number (first_token quoted.1)) other (is_number-first quoted.1 next is.back (number_after text quoted.0 quoted.1 quoted.2 inside next is)))
+        | inr other ↦ inr (λ inside next is. both_ways (is_number (first_token quoted.1)) other
+            (is_number-first quoted.1 next is.back (number_after text quoted.0 quoted.1 quoted.2 inside next is)))
       ]
       | inr none ↦ inr (λ inside next is. none inside is.rest is.quoted)
     ]
 
 -- ---- clauses
-clauses-cases : (granted : ℕ) (text rest : List ℕ) (read : List Clause) → length rest < granted → HasReadClauses text rest read → ((clauses : List Clause) × AreClauses text clauses) ⊎ AreNoClauses text
+clauses-cases : (granted : ℕ) (text rest : List ℕ) (read : List Clause) → length rest < granted → HasReadClauses text rest read
+    → ((clauses : List Clause) × AreClauses text clauses) ⊎ AreNoClauses text
 clauses-cases zero text rest read few so_far = absurd (omega arith)
 clauses-cases (suc granted) text rest read few so_far =
     elim (cases_Bool (list_all is_blank rest)) [
@@ -107,7 +111,8 @@ clauses-cases (suc granted) text rest read few so_far =
 
 all_clauses-cases : (text : List ℕ) → ((clauses : List Clause) × AreClauses text clauses) ⊎ AreNoClauses text
 all_clauses-cases text =
-    clauses-cases (suc (length text)) text text [] (omega arith) (record { before = []; values = refl; sound = λ later are. are; complete = λ clauses are. (clauses, are) })
+    clauses-cases (suc (length text)) text text [] (omega arith)
+    (record { before = []; values = refl; sound = λ later are. are; complete = λ clauses are. (clauses, are) })
 
 -- ---- forms
 form-cases : (line : List ℕ) → ((form : NodeForm) × IsNodeForm line form) ⊎ ((form : NodeForm) → ¬ IsNodeForm line form)
@@ -117,7 +122,8 @@ form-cases line =
         | inl see ↦ by_observation number ((bytes_eq-Decides word (codes "see")).0 see) (observation-cases others)
         | inr not_see ↦ elim (cases_Bool (bytes_eq word (codes "all"))) [
           | inl all ↦ by_clauses number ((bytes_eq-Decides word (codes "all")).0 all) (all_clauses-cases others)
-          | inr not_all ↦ inr (no_word line (λ see. both_ways (bytes_eq word (codes "see")) not_see ((bytes_eq-Decides word (codes "see")).1 see)) (λ all. both_ways (bytes_eq word (codes "all")) not_all ((bytes_eq-Decides word (codes "all")).1 all)))
+          | inr not_all ↦ inr (no_word line (λ see. both_ways (bytes_eq word (codes "see")) not_see ((bytes_eq-Decides word (codes "see")).1 see))
+              (λ all. both_ways (bytes_eq word (codes "all")) not_all ((bytes_eq-Decides word (codes "all")).1 all)))
         ]
       ]
       | inr other ↦ inr (λ form is. both_ways (is_number (first_token line)) other (is_number-first line (first_number form) is.behind_number is.number))
@@ -129,14 +135,16 @@ form-cases line =
     others : List ℕ
     others = after_token (after_token line)
 
-    by_observation : is_number (first_token line) ≡ true → first_token (after_token line) ≡ codes "see" → (((inside : List ℕ) × (next : ℕ) × IsObservation (after_token (after_token line)) inside next) ⊎ IsNoObservation (after_token (after_token line)))
+    by_observation : is_number (first_token line) ≡ true → first_token (after_token line) ≡ codes "see"
+        → (((inside : List ℕ) × (next : ℕ) × IsObservation (after_token (after_token line)) inside next) ⊎ IsNoObservation (after_token (after_token line)))
         → ((form : NodeForm) × IsNodeForm line form) ⊎ ((form : NodeForm) → ¬ IsNodeForm line form)
     by_observation number see (inl has) =
         let form = see_form (number_value (first_token line)) has.0 has.1 in
         inl (form, tokens-IsNodeForm line form (record { number = number; value = refl; word = see; others = has.2 }))
     by_observation number see (inr none) = inr (no_observation line see none)
 
-    by_clauses : is_number (first_token line) ≡ true → first_token (after_token line) ≡ codes "all" → (((clauses : List Clause) × AreClauses (after_token (after_token line)) clauses) ⊎ AreNoClauses (after_token (after_token line)))
+    by_clauses : is_number (first_token line) ≡ true → first_token (after_token line) ≡ codes "all"
+        → (((clauses : List Clause) × AreClauses (after_token (after_token line)) clauses) ⊎ AreNoClauses (after_token (after_token line)))
         → ((form : NodeForm) × IsNodeForm line form) ⊎ ((form : NodeForm) → ¬ IsNodeForm line form)
     by_clauses number all (inl has) =
         let form = all_form (number_value (first_token line)) has.0 in
@@ -155,11 +163,13 @@ of_others P decided (all_form number clauses) = of_all (λ clause. P clause.node
 
 are_small : (form : NodeForm) → Decided (AreSmall form)
 are_small form =
-    both (first_number form ≤ 4294967295) (HoldsOfOthers (λ number. number ≤ 4294967295) form) (at_most (first_number form) 4294967295) (of_others (λ number. number ≤ 4294967295) (λ number. at_most number 4294967295) form)
+    both (first_number form ≤ 4294967295) (HoldsOfOthers (λ number. number ≤ 4294967295) form) (at_most (first_number form) 4294967295)
+    (of_others (λ number. number ≤ 4294967295) (λ number. at_most number 4294967295) form)
 
 is_next : (place : ℕ) (form : NodeForm) → Decided (IsNextAt place form)
 is_next place form =
-    both (first_number form ≡ place) (HoldsOfOthers (λ number. number < place) form) (equal (first_number form) place) (of_others (λ number. number < place) (λ number. less number place) form)
+    both (first_number form ≡ place) (HoldsOfOthers (λ number. number < place) form) (equal (first_number form) place)
+    (of_others (λ number. number < place) (λ number. less number place) form)
 
 is_before : (first second : Clause) → Decided (IsBeforeClause first second)
 is_before first second =
@@ -171,7 +181,8 @@ is_before first second =
       ]
     ]
   where
-    signs : Decided (first.node ≡ second.node) → Decided (first.positive ≡ true) → Decided (second.positive ≡ false) → Decided ((first.node ≡ second.node) × (first.positive ≡ true) × (second.positive ≡ false))
+    signs : Decided (first.node ≡ second.node) → Decided (first.positive ≡ true) → Decided (second.positive ≡ false)
+        → Decided ((first.node ≡ second.node) × (first.positive ≡ true) × (second.positive ≡ false))
     signs (inl one) (inl two) (inl three) = inl (one, two, three)
     signs (inr none) _ _ = inr (λ parts. none parts.0)
     signs _ (inr none) _ = inr (λ parts. none parts.1)
@@ -198,16 +209,19 @@ node_or_fault line place =
       | inr none ↦ inr (BadLine, bad_line none refl)
     ]
   where
-    fails : (form : NodeForm) → IsNodeForm line form → (error : NodeError) → IsFormFault form place error → ((node : SheetNode) × IsNodeLine line place node) ⊎ ((error : NodeError) × IsNodeFault line place error)
+    fails : (form : NodeForm) → IsNodeForm line form → (error : NodeError) → IsFormFault form place error
+        → ((node : SheetNode) × IsNodeLine line place node) ⊎ ((error : NodeError) × IsNodeFault line place error)
     fails form written error fault = inr (error, bad_form form written fault)
 
-    of_form : (form : NodeForm) → IsNodeForm line form → ((node : SheetNode) × IsNodeLine line place node) ⊎ ((error : NodeError) × IsNodeFault line place error)
+    of_form : (form : NodeForm) → IsNodeForm line form
+        → ((node : SheetNode) × IsNodeLine line place node) ⊎ ((error : NodeError) × IsNodeFault line place error)
     of_form form written =
         elim (has_label form) [
           | inl has ↦ elim (are_small form) [
             | inl small ↦ elim (is_next place form) [
               | inl next ↦ elim (rises form) [
-                | inl rise ↦ let given = node-given form has in inl (given.0, record { form = form; written = written; placed = record { small = small; next = next; rise = rise; given = given.1 } })
+                | inl rise ↦ let given = node-given form has in inl
+                    (given.0, record { form = form; written = written; placed = record { small = small; next = next; rise = rise; given = given.1 } })
                 | inr falls ↦ fails form written NotRising (not_rising has small next falls refl)
               ]
               | inr not_next ↦ fails form written BadNode (bad_node has small not_next refl)

@@ -39,7 +39,8 @@ pub found-number : (text : List ℕ) → is_number (first_token text) ≡ true �
 found-number text number = record { digits = first_token text; first = begins_with text; is_number = number; value = refl }
 
 -- ---- observations
-pub observation-once : (text inside other : List ℕ) (next number : ℕ) → IsObservation text inside next → IsObservation text other number → (inside ≡ other) × (next ≡ number)
+pub observation-once : (text inside other : List ℕ) (next number : ℕ) → IsObservation text inside next → IsObservation text other number
+    → (inside ≡ other) × (next ≡ number)
 observation-once text inside other next number one two =
     let quoted = quoted-once text inside one.rest other two.rest one.quoted two.quoted in
     (quoted.0, (number-once two.rest next number one.back two.back (subst (λ rest. BeginsNumber rest next one.back) quoted.1 one.number) two.number).0)
@@ -73,7 +74,8 @@ pub form-HasTokens : (line : List ℕ) (form : NodeForm) → IsNodeForm line for
 form-HasTokens line form is =
     let behind_number : after_token line ≡ is.behind_number = after_token-number line (first_number form) is.behind_number is.number in
     let word : first_token is.behind_number ≡ word_of form = first_token-word is.behind_number (word_of form) is.behind_word is.word (word-IsWord form) in
-    let behind_word : after_token is.behind_number ≡ is.behind_word = after_token-word is.behind_number (word_of form) is.behind_word is.word (word-IsWord form) in
+    let behind_word : after_token is.behind_number ≡ is.behind_word = after_token-word is.behind_number (word_of form) is.behind_word is.word
+    (word-IsWord form) in
     record {
       number = is_number-first line (first_number form) is.behind_number is.number;
       value = value-first line (first_number form) is.behind_number is.number;
@@ -116,21 +118,24 @@ form-once line form other one two = tokens-once line form other (form-HasTokens 
 pub no_number : (line : List ℕ) → None ≡ number_of (first_token line) → (form : NodeForm) → ¬ IsNodeForm line form
 no_number line none form is = none-some (capped (first_number form)) (none ∙ number_of-first line (first_number form) is.behind_number is.number)
 
-pub no_word : (line : List ℕ) → (first_token (after_token line) ≡ codes "see" → ⊥) → (first_token (after_token line) ≡ codes "all" → ⊥) → (form : NodeForm) → ¬ IsNodeForm line form
+pub no_word : (line : List ℕ) → (first_token (after_token line) ≡ codes "see" → ⊥) → (first_token (after_token line) ≡ codes "all" → ⊥) → (form : NodeForm)
+    → ¬ IsNodeForm line form
 no_word line not_see not_all form is = by form (form-HasTokens line form is)
   where
     by : (form : NodeForm) → HasTokens line form → ⊥
     by (see_form number inside next) has = not_see has.word
     by (all_form number clauses) has = not_all has.word
 
-pub no_observation : (line : List ℕ) → first_token (after_token line) ≡ codes "see" → ((inside : List ℕ) (next : ℕ) → ¬ IsObservation (after_token (after_token line)) inside next) → (form : NodeForm) → ¬ IsNodeForm line form
+pub no_observation : (line : List ℕ) → first_token (after_token line) ≡ codes "see"
+    → ((inside : List ℕ) (next : ℕ) → ¬ IsObservation (after_token (after_token line)) inside next) → (form : NodeForm) → ¬ IsNodeForm line form
 no_observation line see none form is = by form (form-HasTokens line form is)
   where
     by : (form : NodeForm) → HasTokens line form → ⊥
     by (see_form number inside next) has = none inside next has.others
     by (all_form number clauses) has = see≢all (sym see ∙ has.word)
 
-pub no_clauses : (line : List ℕ) → first_token (after_token line) ≡ codes "all" → ((clauses : List Clause) → ¬ AreClauses (after_token (after_token line)) clauses) → (form : NodeForm) → ¬ IsNodeForm line form
+pub no_clauses : (line : List ℕ) → first_token (after_token line) ≡ codes "all"
+    → ((clauses : List Clause) → ¬ AreClauses (after_token (after_token line)) clauses) → (form : NodeForm) → ¬ IsNodeForm line form
 no_clauses line all none form is = by form (form-HasTokens line form is)
   where
     by : (form : NodeForm) → HasTokens line form → ⊥
@@ -144,7 +149,8 @@ pub record AreTokens (line digits word behind : List ℕ) : Type 0 where
   pub word_is : word ≡ first_token (after_token line)
   pub behind_is : behind ≡ after_token (after_token line)
 
-pub tokens_taken : (line bytes digits rest word behind : List ℕ) → bytes ≡ line → digits ≡ first_token bytes → rest ≡ after_token bytes → word ≡ first_token rest → behind ≡ after_token rest → AreTokens line digits word behind
+pub tokens_taken : (line bytes digits rest word behind : List ℕ) → bytes ≡ line → digits ≡ first_token bytes → rest ≡ after_token bytes
+    → word ≡ first_token rest → behind ≡ after_token rest → AreTokens line digits word behind
 tokens_taken line bytes digits rest word behind same first after second last =
     let rest_is : rest ≡ after_token line = after ∙ ap after_token same in
     record { digits_are = first ∙ ap first_token same; word_is = second ∙ ap first_token rest_is; behind_is = last ∙ ap after_token rest_is }
@@ -165,29 +171,41 @@ module _ (line digits word behind : List ℕ) (tokens : AreTokens line digits wo
   pub word-refused : (word ≡ codes "see" → ⊥) → (word ≡ codes "all" → ⊥) → (form : NodeForm) → ¬ IsNodeForm line form
   word-refused not_see not_all = no_word line (λ see. not_see (tokens.word_is ∙ see)) (λ all. not_all (tokens.word_is ∙ all))
 
-  pub observation-refused : word ≡ codes "see" → ((inside : List ℕ) (next : ℕ) → ¬ IsObservation behind inside next) → (form : NodeForm) → ¬ IsNodeForm line form
-  observation-refused see none = no_observation line (sym tokens.word_is ∙ see) (subst (λ text. (inside : List ℕ) (next : ℕ) → ¬ IsObservation text inside next) tokens.behind_is none)
+  pub observation-refused : word ≡ codes "see" → ((inside : List ℕ) (next : ℕ) → ¬ IsObservation behind inside next) → (form : NodeForm)
+      → ¬ IsNodeForm line form
+  observation-refused see none = no_observation line (sym tokens.word_is
+      ∙ see) (subst (λ text. (inside : List ℕ) (next : ℕ) → ¬ IsObservation text inside next) tokens.behind_is none)
 
   pub clauses-refused : word ≡ codes "all" → ((clauses : List Clause) → ¬ AreClauses behind clauses) → (form : NodeForm) → ¬ IsNodeForm line form
-  clauses-refused all none = no_clauses line (sym tokens.word_is ∙ all) (subst (λ text. (clauses : List Clause) → ¬ AreClauses text clauses) tokens.behind_is none)
+  clauses-refused all none = no_clauses line (sym tokens.word_is
+      ∙ all) (subst (λ text. (clauses : List Clause) → ¬ AreClauses text clauses) tokens.behind_is none)
 
   module _ (number : ℕ) (found : Some number ≡ number_of digits) where
     first : (is_number (first_token line) ≡ true) × (number ≡ capped (number_value (first_token line)))
     first = number_of-found (first_token line) number (found ∙ ap number_of tokens.digits_are)
 
-    pub see-IsNodeForm : (observation : Observation) → word ≡ codes "see" → (read : IsObservationRead behind observation) → IsNodeForm line (see_form (number_value (first_token line)) observation.inside.now read.next)
+    pub see-IsNodeForm : (observation : Observation) → word ≡ codes "see" → (read : IsObservationRead behind observation)
+        → IsNodeForm line (see_form (number_value (first_token line)) observation.inside.now read.next)
     see-IsNodeForm observation see read =
         tokens-IsNodeForm line (see_form (number_value (first_token line)) observation.inside.now read.next)
-        (record { number = first.0; value = refl; word = sym tokens.word_is ∙ see; others = subst (λ text. IsObservation text observation.inside.now read.next) tokens.behind_is read.is })
+        (record {
+          number = first.0;
+          value = refl;
+          word = sym tokens.word_is ∙ see;
+          others = subst
+              (λ text. IsObservation text observation.inside.now read.next) tokens.behind_is read.is;
+        })
 
-    pub see_read : (observation : Observation) (inside : List ℕ) → word ≡ codes "see" → IsObservationRead behind observation → inside ≡ observation.inside.now → IsFormRead line (see_form number inside observation.next)
+    pub see_read : (observation : Observation) (inside : List ℕ) → word ≡ codes "see" → IsObservationRead behind observation
+        → inside ≡ observation.inside.now → IsFormRead line (see_form number inside observation.next)
     see_read observation inside see read text =
         let value : number ≡ capped (number_value (first_token line)) = first.1 in
         let next : observation.next ≡ capped read.next = read.value in
         record {
           form = see_form (number_value (first_token line)) observation.inside.now read.next;
           is = see-IsNodeForm observation see read;
-          same = ap (λ number. see_form number inside observation.next) value ∙ ap (λ inside. see_form (capped (number_value (first_token line))) inside observation.next) text
+          same = ap (λ number. see_form number inside observation.next) value
+              ∙ ap (λ inside. see_form (capped (number_value (first_token line))) inside observation.next) text
               ∙ ap (λ next. see_form (capped (number_value (first_token line))) observation.inside.now next) next;
         }
 

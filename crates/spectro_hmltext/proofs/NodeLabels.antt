@@ -9,7 +9,8 @@ use Rattle.spectro_hmltext.specs.NodeLines.{BeginsQuoted}
 -- once its blanks are dropped, the text begins in quotes
 pub quoted-begins : (text inside rest : List ℕ) → BeginsQuoted text inside rest → BeginsInQuotes (skip_blanks text) inside rest
 quoted-begins text inside rest begins = record {
-  whole = ap skip_blanks (begins.whole ∙ append_assoc begins.front (34 ∷ inside) (34 ∷ rest)) ∙ skip_blanks-blanks begins.front (34 ∷ (inside ++ 34 ∷ rest)) begins.blanks;
+  whole = ap skip_blanks (begins.whole ∙ append_assoc begins.front (34 ∷ inside) (34 ∷ rest))
+      ∙ skip_blanks-blanks begins.front (34 ∷ (inside ++ 34 ∷ rest)) begins.blanks;
   closed = begins.closed;
 }
 
@@ -26,4 +27,5 @@ begins-quoted text inside rest begins apart =
     }
 
 pub quoted-once : (text inside rest other others : List ℕ) → BeginsQuoted text inside rest → BeginsQuoted text other others → (inside ≡ other) × (rest ≡ others)
-quoted-once text inside rest other others one two = quotes-once (skip_blanks text) inside rest other others (quoted-begins text inside rest one) (quoted-begins text other others two)
+quoted-once text inside rest other others one two = quotes-once (skip_blanks text) inside rest other others (quoted-begins text inside rest one)
+    (quoted-begins text other others two)

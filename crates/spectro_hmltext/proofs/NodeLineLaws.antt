@@ -9,12 +9,14 @@ use Rattle.spectro_hmltext.proofs.NodeForms.{form-once}
 
 -- ---- nodes
 node-once : (form : NodeForm) (one other : SheetNode) → IsNodeOf form one → IsNodeOf form other → one ≡ other
-node-once (see_form number inside next) one other first second = first.2 ∙ ap (λ label. see_node label next) (label-once inside first.0 second.0 first.1 second.1) ∙ sym second.2
+node-once (see_form number inside next) one other first second = first.2
+    ∙ ap (λ label. see_node label next) (label-once inside first.0 second.0 first.1 second.1) ∙ sym second.2
 node-once (all_form number clauses) one other first second = first ∙ sym second
 
 pub one_node : (line : List ℕ) (place : ℕ) (one other : SheetNode) → IsNodeLine line place one → IsNodeLine line place other → one ≡ other
 one_node line place one other first second =
-    node-once second.form one other (subst (λ form. IsNodeOf form one) (form-once line first.form second.form first.written second.written) first.placed.given) second.placed.given
+    node-once second.form one other
+    (subst (λ form. IsNodeOf form one) (form-once line first.form second.form first.written second.written) first.placed.given) second.placed.given
 
 -- ---- faults
 form_fault-once : (form : NodeForm) (place : ℕ) (one two : NodeError) → IsFormFault form place one → IsFormFault form place two → one ≡ two

@@ -30,14 +30,17 @@ with_node clause node e = let put : ℕ → Clause = λ node. record { positive 
 capped-clauses : (clauses : List Clause) → All IsSmallClause (map capped_clause clauses) → map capped_clause clauses ≡ clauses
 capped-clauses [] small = refl
 capped-clauses (clause ∷ clauses) small =
-    let first : capped_clause clause ≡ clause = with_node clause (capped clause.node) (capped-small clause.node (All-head IsSmallClause (capped_clause clause) (map capped_clause clauses) small)) in
-    let later : map capped_clause clauses ≡ clauses = capped-clauses clauses (All-tail IsSmallClause (capped_clause clause) (map capped_clause clauses) small) in
+    let first : capped_clause clause ≡ clause = with_node clause (capped clause.node)
+    (capped-small clause.node (All-head IsSmallClause (capped_clause clause) (map capped_clause clauses) small)) in
+    let later : map capped_clause clauses ≡ clauses = capped-clauses clauses
+    (All-tail IsSmallClause (capped_clause clause) (map capped_clause clauses) small) in
     cc
 
 clauses-capped : (clauses : List Clause) → All IsSmallClause clauses → map capped_clause clauses ≡ clauses
 clauses-capped [] small = refl
 clauses-capped (clause ∷ clauses) small =
-    let first : capped_clause clause ≡ clause = with_node clause (capped clause.node) (small-capped clause.node (All-head IsSmallClause clause clauses small)) in
+    let first : capped_clause clause ≡ clause = with_node clause (capped clause.node)
+    (small-capped clause.node (All-head IsSmallClause clause clauses small)) in
     let later : map capped_clause clauses ≡ clauses = clauses-capped clauses (All-tail IsSmallClause clause clauses small) in
     cc
 
@@ -72,9 +75,12 @@ exact-label (all_form number clauses) has = has
 
 fault-exact : (form : NodeForm) (place : ℕ) (error : NodeError) → IsFormFault (capped_form form) place error → IsFormFault form place error
 fault-exact form place error (bad_label none is) = bad_label (λ has. none (exact-label form has)) is
-fault-exact form place error (bad_number has large is) = bad_number (label-exact form has) (λ small. large (subst AreSmall (sym (form-capped form small)) small)) is
-fault-exact form place error (bad_node has small not_next is) = subst (λ form. IsFormFault form place error) (capped-form form small) (bad_node has small not_next is)
-fault-exact form place error (not_rising has small next falls is) = subst (λ form. IsFormFault form place error) (capped-form form small) (not_rising has small next falls is)
+fault-exact form place error (bad_number has large is) = bad_number (label-exact form has)
+    (λ small. large (subst AreSmall (sym (form-capped form small)) small)) is
+fault-exact form place error (bad_node has small not_next is) = subst (λ form. IsFormFault form place error) (capped-form form small)
+    (bad_node has small not_next is)
+fault-exact form place error (not_rising has small next falls is) = subst (λ form. IsFormFault form place error) (capped-form form small)
+    (not_rising has small next falls is)
 
 module _ (line : List ℕ) (form read : NodeForm) (is : IsNodeForm line form) (same : read ≡ capped_form form) where
   exact : (place : ℕ) (error : NodeError) → IsFormFault read place error → IsFormFault form place error
@@ -93,7 +99,12 @@ module _ (line : List ℕ) (form read : NodeForm) (is : IsNodeForm line form) (s
       let placed : IsNodeAtPlace (capped_form form) (length old) put.node = subst (λ form. IsNodeAtPlace form (length old) put.node) same put.placed in
       record {
         node = put.node;
-        written = record { form = form; written = is; placed = subst (λ form. IsNodeAtPlace form (length old) put.node) (capped-form form placed.small) placed };
+        written = record {
+          form = form;
+          written = is;
+          placed = subst (λ form. IsNodeAtPlace form (length old) put.node)
+              (capped-form form placed.small) placed;
+        };
         list = put.list;
       }
 
@@ -101,19 +112,22 @@ module _ (line : List ℕ) (form read : NodeForm) (is : IsNodeForm line form) (s
   told_refused place (Ok value) told = tt
   told_refused place (Err error) told = refused-line place error told
 
-  pub told_appended : {T : Type 0} (old new : List SheetNode) (result : Result T NodeError) → OnOk result (IsPut read old new) → OnOk result (IsAppended line old new)
+  pub told_appended : {T : Type 0} (old new : List SheetNode) (result : Result T NodeError) → OnOk result (IsPut read old new)
+      → OnOk result (IsAppended line old new)
   told_appended old new result told = on_ok_weaker result (appended-line old new) told
 
 -- ---- the text between the quotes
 quoted-utf8 : (front text inside rest : List ℕ) → BeginsQuoted text inside rest → IsUtf8 (front ++ text) → IsUtf8 inside
 quoted-utf8 front text inside rest begins utf8 =
     let whole : front ++ text ≡ (front ++ begins.front) ++ 34 ∷ (inside ++ 34 ∷ rest) =
-    ap (λ text. front ++ text) (begins.whole ∙ append_assoc begins.front (34 ∷ inside) (34 ∷ rest)) ∙ sym (append_assoc front begins.front (34 ∷ (inside ++ 34 ∷ rest))) in
+    ap (λ text. front ++ text) (begins.whole ∙ append_assoc begins.front (34 ∷ inside) (34 ∷ rest))
+    ∙ sym (append_assoc front begins.front (34 ∷ (inside ++ 34 ∷ rest))) in
     utf8_before inside 34 rest (omega arith) (utf8_behind (front ++ begins.front) 34 (inside ++ 34 ∷ rest) (omega arith) (subst IsUtf8 whole utf8))
 
 pub inside-utf8 : (line inside : List ℕ) (number next : ℕ) → IsNodeForm line (see_form number inside next) → IsUtf8 line → IsUtf8 inside
 inside-utf8 line inside number next is utf8 =
     let one : List ℕ = is.number.first.front ++ is.number.digits in
     let two : List ℕ = is.word.front ++ (115 ∷ 101 ∷ 101 ∷ []) in
-    let whole : line ≡ (one ++ two) ++ is.behind_word = is.number.first.whole ∙ ap (λ text. one ++ text) is.word.whole ∙ sym (append_assoc one two is.behind_word) in
+    let whole : line ≡ (one ++ two) ++ is.behind_word = is.number.first.whole ∙ ap (λ text. one ++ text) is.word.whole
+    ∙ sym (append_assoc one two is.behind_word) in
     quoted-utf8 (one ++ two) is.behind_word inside is.others.rest is.others.quoted (subst IsUtf8 whole utf8)

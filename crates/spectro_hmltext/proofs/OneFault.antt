@@ -34,30 +34,35 @@ abbrev TextSettles : List ℕ → Outcome Formula → Type 0
 TextSettles text outcome = Settles Formula (read_text text) outcome
 
 -- what is read of a part settles what is read of the text
-text_settles : (text : List ℕ) (part outcome : Outcome Formula) → Settles Formula (λ granted. read_formula granted 1 text) part → ended part ≡ outcome → TextSettles text outcome
+text_settles : (text : List ℕ) (part outcome : Outcome Formula) → Settles Formula (λ granted. read_formula granted 1 text) part → ended part ≡ outcome
+    → TextSettles text outcome
 text_settles text part outcome settles is =
     let changed = settles_changed (λ granted. read_formula granted 1 text) part ended settles in
     record { steps = changed.steps; settled = λ granted within. changed.settled granted within ∙ is }
 
 formula_read : (text : List ℕ) (formula : Formula) (is : IsFormulaText text formula) → TextSettles text (given formula is.rest)
-formula_read text formula is = text_settles text (given formula is.rest) (given formula is.rest) (formula_settles formula 1 text is.rest is.whole) (ap (λ token. ended_at token formula is.rest) is.end)
+formula_read text formula is = text_settles text (given formula is.rest) (given formula is.rest) (formula_settles formula 1 text is.rest is.whole)
+    (ap (λ token. ended_at token formula is.rest) is.end)
 
 fault_found : (text left : List ℕ) (kind : TextKind) → IsTextFault text left kind → TextSettles text (fault left kind)
 fault_found text left kind (IsTextFault.in_formula fails) = text_settles text (fault left kind) (fault left kind) (formula_fails left kind fails) refl
 fault_found text left kind (IsTextFault.behind_formula formula rest stands other is) =
-    text_settles text (given formula rest) (fault left kind) (formula_settles formula 1 text rest stands) (ended_at-other (token_of rest) formula rest other ∙ misplaced_fault rest left kind is)
+    text_settles text (given formula rest) (fault left kind) (formula_settles formula 1 text rest stands) (ended_at-other (token_of rest) formula rest other
+    ∙ misplaced_fault rest left kind is)
 
 -- two formulas of one text are one
 pub one_formula : EachTextHasAtMostOneFormula
 one_formula text one two is_one is_two =
-    let same : given one is_one.rest ≡ given two is_two.rest = one_outcome (read_text text) (given one is_one.rest) (given two is_two.rest) (formula_read text one is_one) (formula_read text two is_two) in
+    let same : given one is_one.rest ≡ given two is_two.rest = one_outcome (read_text text) (given one is_one.rest) (given two is_two.rest)
+    (formula_read text one is_one) (formula_read text two is_two) in
     cc
 
 -- a text of a formula has no first fault
 pub no_fault_of_text : TextsOfFormulasHaveNoFault
 no_fault_of_text text formula found is (IsFirstFault.too_long long _ _) = let short : length text ≤ 65536 = is.short in omega (arith, short, long)
 no_fault_of_text text formula found is (IsFirstFault.other short left fails sum) =
-    let same : given formula is.rest ≡ fault left found.kind = one_outcome (read_text text) (given formula is.rest) (fault left found.kind) (formula_read text formula is) (fault_found text left found.kind fails) in
+    let same : given formula is.rest ≡ fault left found.kind = one_outcome (read_text text) (given formula is.rest) (fault left found.kind)
+    (formula_read text formula is) (fault_found text left found.kind fails) in
     cc
 
 same_fault : (one two : TextFault) → one.at ≡ two.at → one.kind ≡ two.kind → one ≡ two
@@ -65,12 +70,14 @@ same_fault one two places kinds = ap (λ place. record { at = place; kind = one.
 
 -- two first faults of one text are one
 pub one_fault : EachTextHasAtMostOneFirstFault
-one_fault text one two (IsFirstFault.too_long _ place kind) (IsFirstFault.too_long _ other_place other_kind) = same_fault one two (place ∙ sym other_place) (kind ∙ sym other_kind)
+one_fault text one two (IsFirstFault.too_long _ place kind) (IsFirstFault.too_long _ other_place other_kind) = same_fault one two (place
+    ∙ sym other_place) (kind ∙ sym other_kind)
 one_fault text one two (IsFirstFault.too_long long _ _) (IsFirstFault.other short _ _ _) = absurd (omega (arith, long, short))
 one_fault text one two (IsFirstFault.other short _ _ _) (IsFirstFault.too_long long _ _) = absurd (omega (arith, long, short))
 one_fault text one two (IsFirstFault.other _ left fails sum) (IsFirstFault.other _ other_left other_fails other_sum) =
     let same : fault left one.kind ≡ fault other_left two.kind =
-    one_outcome (read_text text) (fault left one.kind) (fault other_left two.kind) (fault_found text left one.kind fails) (fault_found text other_left two.kind other_fails) in
+    one_outcome (read_text text) (fault left one.kind) (fault other_left two.kind) (fault_found text left one.kind fails)
+    (fault_found text other_left two.kind other_fails) in
     let lefts : left ≡ other_left = cc in
     let kinds : one.kind ≡ two.kind = cc in
     let bytes : length left ≡ length other_left = ap length lefts in

@@ -37,8 +37,10 @@ same_fault one two kind other same kinds = ap (λ left. fault left other) (sym s
 
 -- where the first token can't stand, that is the outcome
 pub misplaced_fault : {A : Type 0} (text left : List ℕ) (kind : TextKind) → IsMisplaced text left kind → misplaced {A = A} text ≡ fault left kind
-misplaced_fault text left kind (IsMisplaced.no_token ends is_left is_kind) = ap (λ token. misplaced_at token text) ends ∙ same_fault left [] kind UnexpectedEnd is_left is_kind
-misplaced_fault text left kind (IsMisplaced.other_token not_end is_left is_kind) = misplaced_at-other (token_of text) text not_end ∙ same_fault left (skip_blanks text) kind Unexpected is_left is_kind
+misplaced_fault text left kind (IsMisplaced.no_token ends is_left is_kind) = ap (λ token. misplaced_at token text) ends
+    ∙ same_fault left [] kind UnexpectedEnd is_left is_kind
+misplaced_fault text left kind (IsMisplaced.other_token not_end is_left is_kind) = misplaced_at-other (token_of text) text not_end
+    ∙ same_fault left (skip_blanks text) kind Unexpected is_left is_kind
 
 -- with as many steps as this or more the outcome is so
 pub record Settles (A : Type 0) (read : ℕ → Outcome A) (outcome : Outcome A) : Type 0 where
@@ -47,10 +49,12 @@ pub record Settles (A : Type 0) (read : ℕ → Outcome A) (outcome : Outcome A)
 
 -- an outcome is the only one
 pub one_outcome : {A : Type 0} (read : ℕ → Outcome A) (one two : Outcome A) → Settles A read one → Settles A read two → one ≡ two
-one_outcome read one two first second = sym (first.settled (first.steps + second.steps) (omega arith)) ∙ second.settled (first.steps + second.steps) (omega arith)
+one_outcome read one two first second = sym (first.settled (first.steps + second.steps) (omega arith))
+    ∙ second.settled (first.steps + second.steps) (omega arith)
 
 -- what is so behind one step
-pub settles_behind : {A : Type 0} (read : ℕ → Outcome A) (outcome : Outcome A) (steps : ℕ) → ((granted : ℕ) → steps ≤ granted → read (suc granted) ≡ outcome) → Settles A read outcome
+pub settles_behind : {A : Type 0} (read : ℕ → Outcome A) (outcome : Outcome A) (steps : ℕ)
+    → ((granted : ℕ) → steps ≤ granted → read (suc granted) ≡ outcome) → Settles A read outcome
 settles_behind read outcome steps behind = record { steps = suc steps; settled = settled }
   where
     settled : (granted : ℕ) → suc steps ≤ granted → read granted ≡ outcome
@@ -58,5 +62,6 @@ settles_behind read outcome steps behind = record { steps = suc steps; settled =
     settled (suc granted) within = behind granted (omega arith)
 
 -- what is changed of an outcome is settled with it
-pub settles_changed : {A B : Type 0} (read : ℕ → Outcome A) (outcome : Outcome A) (change : Outcome A → Outcome B) → Settles A read outcome → Settles B (λ granted. change (read granted)) (change outcome)
+pub settles_changed : {A B : Type 0} (read : ℕ → Outcome A) (outcome : Outcome A) (change : Outcome A → Outcome B) → Settles A read outcome
+    → Settles B (λ granted. change (read granted)) (change outcome)
 settles_changed read outcome change settles = record { steps = settles.steps; settled = λ granted within. ap change (settles.settled granted within) }

@@ -84,12 +84,14 @@ abbrev mutual
   -- the formula at the front of the text
   pub read_formula : ℕ → ℕ → List ℕ → Outcome Formula
   read_formula zero nesting text = misplaced text
-  read_formula (suc granted) nesting text = read_behind (λ closed. read_formula granted (nesting + 1) closed) (λ opened. read_clauses granted (nesting + 1) opened) (front_of nesting text)
+  read_formula (suc granted) nesting text = read_behind (λ closed. read_formula granted (nesting + 1) closed)
+      (λ opened. read_clauses granted (nesting + 1) opened) (front_of nesting text)
 
   -- the clauses, the first of which is at the front
   pub read_clauses : ℕ → ℕ → List ℕ → Outcome Clauses
   read_clauses zero nesting text = misplaced text
-  read_clauses (suc granted) nesting text = behind_clause (λ ended. read_others granted nesting ended) (sign_of (token_of text)) (read_formula granted nesting (behind_sign (token_of text) text))
+  read_clauses (suc granted) nesting text = behind_clause (λ ended. read_others granted nesting ended) (sign_of (token_of text))
+      (read_formula granted nesting (behind_sign (token_of text) text))
 
   -- the clauses behind one that ended at the front
   pub read_others : ℕ → ℕ → List ℕ → Outcome Clauses
@@ -111,20 +113,25 @@ OthersSettle nesting text outcome = Settles Clauses (λ granted. read_others gra
 -- what the front says is settled, with what is read behind it
 pub at_once_settles : (nesting : ℕ) (text : List ℕ) (outcome : Outcome Formula) → front_of nesting text ≡ at_once outcome → FormulaSettles nesting text outcome
 at_once_settles nesting text outcome front =
-    settles_behind (λ granted. read_formula granted nesting text) outcome 0 (λ granted within. ap (read_behind (λ closed. read_formula granted (nesting + 1) closed) (λ opened. read_clauses granted (nesting + 1) opened)) front)
+    settles_behind (λ granted. read_formula granted nesting text) outcome 0
+    (λ granted within. ap (read_behind (λ closed. read_formula granted (nesting + 1) closed) (λ opened. read_clauses granted (nesting + 1) opened)) front)
 
 -- an observation, by the formula in it
-pub observed_settles : (nesting : ℕ) (text : List ℕ) (label : Label) (closed : List ℕ) (outcome : Outcome Formula) → front_of nesting text ≡ observed label closed → FormulaSettles (nesting + 1) closed outcome
+pub observed_settles : (nesting : ℕ) (text : List ℕ) (label : Label) (closed : List ℕ) (outcome : Outcome Formula)
+    → front_of nesting text ≡ observed label closed → FormulaSettles (nesting + 1) closed outcome
     → FormulaSettles nesting text (mapped (see label) outcome)
 observed_settles nesting text label closed outcome front inner =
     settles_behind (λ granted. read_formula granted nesting text) (mapped (see label) outcome) inner.steps
-    (λ granted within. ap (read_behind (λ closed. read_formula granted (nesting + 1) closed) (λ opened. read_clauses granted (nesting + 1) opened)) front ∙ ap (mapped (see label)) (inner.settled granted within))
+    (λ granted within. ap (read_behind (λ closed. read_formula granted (nesting + 1) closed) (λ opened. read_clauses granted (nesting + 1) opened)) front
+    ∙ ap (mapped (see label)) (inner.settled granted within))
 
 -- a conjunction, by its clauses
-pub conjoined_settles : (nesting : ℕ) (text opened : List ℕ) (outcome : Outcome Clauses) → front_of nesting text ≡ conjoined opened → ClausesSettle (nesting + 1) opened outcome → FormulaSettles nesting text (mapped all outcome)
+pub conjoined_settles : (nesting : ℕ) (text opened : List ℕ) (outcome : Outcome Clauses) → front_of nesting text ≡ conjoined opened
+    → ClausesSettle (nesting + 1) opened outcome → FormulaSettles nesting text (mapped all outcome)
 conjoined_settles nesting text opened outcome front inner =
     settles_behind (λ granted. read_formula granted nesting text) (mapped all outcome) inner.steps
-    (λ granted within. ap (read_behind (λ closed. read_formula granted (nesting + 1) closed) (λ opened. read_clauses granted (nesting + 1) opened)) front ∙ ap (mapped all) (inner.settled granted within))
+    (λ granted within. ap (read_behind (λ closed. read_formula granted (nesting + 1) closed) (λ opened. read_clauses granted (nesting + 1) opened)) front
+    ∙ ap (mapped all) (inner.settled granted within))
 
 -- the sign of the clause at the front of the text, and its formula's text
 pub record SignedAs (text : List ℕ) (positive : Bool) (inner : List ℕ) : Type 0 where
@@ -144,7 +151,8 @@ pub negated_sign : (text negated : List ℕ) → Begins Not text negated → Sig
 negated_sign text negated begins = record { sign = ap sign_of begins.first; behind = ap (λ token. behind_sign token text) begins.first ∙ sym begins.behind }
 
 -- the clause, and the others behind it
-clause_settles : (nesting : ℕ) (text inner : List ℕ) (positive : Bool) (outcome : Outcome Formula) (found : Outcome Clauses) (steps : ℕ) → SignedAs text positive inner → FormulaSettles nesting inner outcome
+clause_settles : (nesting : ℕ) (text inner : List ℕ) (positive : Bool) (outcome : Outcome Formula) (found : Outcome Clauses) (steps : ℕ)
+    → SignedAs text positive inner → FormulaSettles nesting inner outcome
     → ((granted : ℕ) → steps ≤ granted → behind_clause (λ ended. read_others granted nesting ended) positive outcome ≡ found) → ClausesSettle nesting text found
 clause_settles nesting text inner positive outcome found steps signed first others =
     settles_behind (λ granted. read_clauses granted nesting text) found (first.steps + steps)
@@ -155,14 +163,18 @@ clause_settles nesting text inner positive outcome found steps signed first othe
     ∙ others granted (omega arith))
 
 -- the fault of the first clause is that of the clauses
-pub clause_fails : (nesting : ℕ) (text inner : List ℕ) (positive : Bool) (left : List ℕ) (kind : TextKind) → SignedAs text positive inner → FormulaSettles nesting inner (fault left kind) → ClausesSettle nesting text (fault left kind)
-clause_fails nesting text inner positive left kind signed first = clause_settles nesting text inner positive (fault left kind) (fault left kind) 0 signed first (λ granted within. refl)
+pub clause_fails : (nesting : ℕ) (text inner : List ℕ) (positive : Bool) (left : List ℕ) (kind : TextKind) → SignedAs text positive inner
+    → FormulaSettles nesting inner (fault left kind) → ClausesSettle nesting text (fault left kind)
+clause_fails nesting text inner positive left kind signed first = clause_settles nesting text inner positive (fault left kind)
+    (fault left kind) 0 signed first (λ granted within. refl)
 
 -- the first clause goes before what is read of the others
-pub clauses_settle : (nesting : ℕ) (text inner : List ℕ) (positive : Bool) (formula : Formula) (ended : List ℕ) (outcome : Outcome Clauses) → SignedAs text positive inner → FormulaSettles nesting inner (given formula ended)
+pub clauses_settle : (nesting : ℕ) (text inner : List ℕ) (positive : Bool) (formula : Formula) (ended : List ℕ) (outcome : Outcome Clauses)
+    → SignedAs text positive inner → FormulaSettles nesting inner (given formula ended)
     → OthersSettle nesting ended outcome → ClausesSettle nesting text (mapped (with_clause positive formula) outcome)
 clauses_settle nesting text inner positive formula ended outcome signed first others =
-    clause_settles nesting text inner positive (given formula ended) (mapped (with_clause positive formula) outcome) others.steps signed first (λ granted within. ap (mapped (with_clause positive formula)) (others.settled granted within))
+    clause_settles nesting text inner positive (given formula ended) (mapped (with_clause positive formula) outcome) others.steps signed first
+    (λ granted within. ap (mapped (with_clause positive formula)) (others.settled granted within))
 
 -- no more clauses stand behind a brace
 pub closed_settle : (nesting : ℕ) (text rest : List ℕ) → Begins CloseBrace text rest → OthersSettle nesting text (given no_clauses rest)
@@ -171,18 +183,22 @@ closed_settle nesting text rest begins =
     (λ granted within. ap (λ token. others_at (λ next. read_clauses granted nesting next) token text) begins.first ∙ ap (given no_clauses) (sym begins.behind))
 
 -- more clauses stand behind a comma
-pub more_settle : (nesting : ℕ) (text next : List ℕ) (outcome : Outcome Clauses) → Begins Comma text next → ClausesSettle nesting next outcome → OthersSettle nesting text outcome
+pub more_settle : (nesting : ℕ) (text next : List ℕ) (outcome : Outcome Clauses) → Begins Comma text next → ClausesSettle nesting next outcome
+    → OthersSettle nesting text outcome
 more_settle nesting text next outcome begins others =
     settles_behind (λ granted. read_others granted nesting text) outcome others.steps
-    (λ granted within. ap (λ token. others_at (λ next. read_clauses granted nesting next) token text) begins.first ∙ ap (read_clauses granted nesting) (sym begins.behind) ∙ others.settled granted within)
+    (λ granted within. ap (λ token. others_at (λ next. read_clauses granted nesting next) token text) begins.first
+    ∙ ap (read_clauses granted nesting) (sym begins.behind) ∙ others.settled granted within)
 
-others_at-other : (clauses : List ℕ → Outcome Clauses) (token : Token) (text : List ℕ) → token ≢ Comma → token ≢ CloseBrace → others_at clauses token text ≡ misplaced text
+others_at-other : (clauses : List ℕ → Outcome Clauses) (token : Token) (text : List ℕ) → token ≢ Comma → token ≢ CloseBrace
+    → others_at clauses token text ≡ misplaced text
 others_at-other clauses Comma text comma brace = absurd (comma refl)
 others_at-other clauses CloseBrace text comma brace = absurd (brace refl)
 others_at-other clauses _ text comma brace = refl
 
 -- another token can't stand behind a clause
-pub neither_settle : (nesting : ℕ) (text left : List ℕ) (kind : TextKind) → token_of text ≢ Comma → token_of text ≢ CloseBrace → IsMisplaced text left kind → OthersSettle nesting text (fault left kind)
+pub neither_settle : (nesting : ℕ) (text left : List ℕ) (kind : TextKind) → token_of text ≢ Comma → token_of text ≢ CloseBrace → IsMisplaced text left kind
+    → OthersSettle nesting text (fault left kind)
 neither_settle nesting text left kind comma brace is =
     settles_behind (λ granted. read_others granted nesting text) (fault left kind) 0
     (λ granted within. others_at-other (λ next. read_clauses granted nesting next) (token_of text) text comma brace ∙ misplaced_fault text left kind is)

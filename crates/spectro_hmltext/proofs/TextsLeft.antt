@@ -19,15 +19,32 @@ shorter_label text label rest stands = omega (arith, ap length stands.whole, len
 
 mutual
   -- each formula takes as many bytes as it has formulas, or more
-  pub shorter_formula : (formula : Formula) (nesting : ℕ) (text rest : List ℕ) → StandsFormula nesting text formula rest → size formula + length rest ≤ length text
+  pub shorter_formula : (formula : Formula) (nesting : ℕ) (text rest : List ℕ) → StandsFormula nesting text formula rest
+      → size formula + length rest ≤ length text
   shorter_formula (see label formula) nesting text rest stands =
-      omega (arith, shorter_Begins Less text stands.1 stands.2 (λ e. cc), shorter_label stands.1 label stands.3 stands.4, shorter_Begins Greater stands.3 stands.5 stands.6 (λ e. cc), shorter_formula formula (nesting + 1) stands.5 rest stands.7)
+      omega (
+        arith,
+        shorter_Begins Less text stands.1 stands.2
+            (λ e. cc),
+        shorter_label stands.1 label stands.3 stands.4,
+        shorter_Begins Greater stands.3 stands.5 stands.6 (λ e. cc),
+        shorter_formula formula
+            (nesting + 1) stands.5 rest stands.7,
+      )
   shorter_formula (all clauses) nesting text rest stands = omega (arith, shorter_conjunction clauses nesting text rest stands.1)
 
-  shorter_conjunction : (clauses : Clauses) (nesting : ℕ) (text rest : List ℕ) → StandsConjunction nesting text clauses rest → size_of_clauses clauses + 1 + length rest ≤ length text
+  shorter_conjunction : (clauses : Clauses) (nesting : ℕ) (text rest : List ℕ) → StandsConjunction nesting text clauses rest
+      → size_of_clauses clauses + 1 + length rest ≤ length text
   shorter_conjunction no_clauses nesting text rest stands = omega (arith, shorter_Begins Truth text rest stands (λ e. cc))
   shorter_conjunction (plus formula clauses) nesting text rest stands =
-      omega (arith, shorter_Begins And text stands.0 stands.1 (λ e. cc), shorter_Begins OpenBrace stands.0 stands.2 stands.3 (λ e. cc), shorter_formula formula (nesting + 1) stands.2 stands.4 stands.5, shorter_others clauses (nesting + 1) stands.4 rest stands.6)
+      omega (
+        arith,
+        shorter_Begins And text stands.0 stands.1 (λ e. cc),
+        shorter_Begins OpenBrace stands.0 stands.2 stands.3
+            (λ e. cc),
+        shorter_formula formula (nesting + 1) stands.2 stands.4 stands.5,
+        shorter_others clauses (nesting + 1) stands.4 rest stands.6,
+      )
   shorter_conjunction (minus formula clauses) nesting text rest stands =
       omega (
         arith,
@@ -38,16 +55,32 @@ mutual
         shorter_others clauses (nesting + 1) stands.6 rest stands.8,
       )
 
-  shorter_others : (clauses : Clauses) (nesting : ℕ) (text rest : List ℕ) → StandOthers nesting text clauses rest → size_of_clauses clauses + length rest < length text
+  shorter_others : (clauses : Clauses) (nesting : ℕ) (text rest : List ℕ) → StandOthers nesting text clauses rest
+      → size_of_clauses clauses + length rest < length text
   shorter_others no_clauses nesting text rest stand = omega (arith, shorter_Begins CloseBrace text rest stand (λ e. cc))
   shorter_others (plus formula clauses) nesting text rest stand =
-      omega (arith, shorter_Begins Comma text stand.0 stand.1 (λ e. cc), shorter_formula formula nesting stand.0 stand.2 stand.3, shorter_others clauses nesting stand.2 rest stand.4)
+      omega (
+        arith,
+        shorter_Begins Comma text stand.0 stand.1
+            (λ e. cc),
+        shorter_formula formula nesting stand.0 stand.2 stand.3,
+        shorter_others clauses nesting stand.2 rest stand.4,
+      )
   shorter_others (minus formula clauses) nesting text rest stand =
-      omega (arith, shorter_Begins Comma text stand.0 stand.1 (λ e. cc), shorter_Begins Not stand.0 stand.2 stand.3 (λ e. cc), shorter_formula formula nesting stand.2 stand.4 stand.5, shorter_others clauses nesting stand.4 rest stand.6)
+      omega (
+        arith,
+        shorter_Begins Comma text stand.0 stand.1 (λ e. cc),
+        shorter_Begins Not stand.0 stand.2 stand.3
+            (λ e. cc),
+        shorter_formula formula nesting stand.2 stand.4 stand.5,
+        shorter_others clauses nesting stand.4 rest stand.6,
+      )
 
-pub shorter_clause : (nesting : ℕ) (text : List ℕ) (positive : Bool) (formula : Formula) (rest : List ℕ) → StandsClause nesting text positive formula rest → length rest ≤ length text
+pub shorter_clause : (nesting : ℕ) (text : List ℕ) (positive : Bool) (formula : Formula) (rest : List ℕ) → StandsClause nesting text positive formula rest
+    → length rest ≤ length text
 shorter_clause nesting text true formula rest stands = omega (arith, shorter_formula formula nesting text rest stands)
-shorter_clause nesting text false formula rest stands = omega (arith, shorter_Begins Not text stands.0 stands.1 (λ e. cc), shorter_formula formula nesting stands.0 rest stands.2)
+shorter_clause nesting text false formula rest stands = omega
+    (arith, shorter_Begins Not text stands.0 stands.1 (λ e. cc), shorter_formula formula nesting stands.0 rest stands.2)
 
 -- ---- a fault stands within the text
 misplaced-left : (text left : List ℕ) (kind : TextKind) → IsMisplaced text left kind → length left ≤ length text
@@ -71,28 +104,53 @@ mutual
   pub formula-left : (left : List ℕ) (kind : TextKind) (nesting : ℕ) (text : List ℕ) → IsFormulaFault left kind nesting text → length left ≤ length text
   formula-left left kind _ _ (IsFormulaFault.no_formula nesting text none is) = misplaced-left text left kind is
   formula-left left kind _ _ (IsFormulaFault.too_deep nesting text begins deep at is) = omega (arith, ap length at, length-skip_blanks text)
-  formula-left left kind _ _ (IsFormulaFault.no_label nesting text opened shallow less is) = omega (arith, shorter_Begins Less text opened less (λ e. cc), label-left opened left kind is)
+  formula-left left kind _ _ (IsFormulaFault.no_label nesting text opened shallow less is) = omega
+      (arith, shorter_Begins Less text opened less (λ e. cc), label-left opened left kind is)
   formula-left left kind _ _ (IsFormulaFault.no_end_of_label nesting text opened label labelled shallow less stands none is) =
       omega (arith, shorter_Begins Less text opened less (λ e. cc), shorter_label opened label labelled stands, misplaced-left labelled left kind is)
   formula-left left kind _ _ (IsFormulaFault.in_observation nesting text opened label labelled closed shallow less stands greater is) =
-      omega (arith, shorter_Begins Less text opened less (λ e. cc), shorter_label opened label labelled stands, shorter_Begins Greater labelled closed greater (λ e. cc), formula-left left kind (nesting + 1) closed is)
-  formula-left left kind _ _ (IsFormulaFault.no_brace nesting text word shallow and none is) = omega (arith, shorter_Begins And text word and (λ e. cc), misplaced-left word left kind is)
+      omega (
+        arith,
+        shorter_Begins Less text opened less
+            (λ e. cc),
+        shorter_label opened label labelled stands,
+        shorter_Begins Greater labelled closed greater (λ e. cc),
+        formula-left left kind
+            (nesting + 1) closed is,
+      )
+  formula-left left kind _ _ (IsFormulaFault.no_brace nesting text word shallow and none is) = omega
+      (arith, shorter_Begins And text word and (λ e. cc), misplaced-left word left kind is)
   formula-left left kind _ _ (IsFormulaFault.in_conjunction nesting text word opened shallow and brace are) =
-      omega (arith, shorter_Begins And text word and (λ e. cc), shorter_Begins OpenBrace word opened brace (λ e. cc), clauses-left left kind (nesting + 1) opened are)
+      omega (
+        arith,
+        shorter_Begins And text word and (λ e. cc),
+        shorter_Begins OpenBrace word opened brace (λ e. cc),
+        clauses-left left kind
+            (nesting + 1) opened are,
+      )
 
   clause-left : (left : List ℕ) (kind : TextKind) (nesting : ℕ) (text : List ℕ) → IsClauseFault left kind nesting text → length left ≤ length text
   clause-left left kind _ _ (IsClauseFault.in_formula nesting text plain is) = formula-left left kind nesting text is
-  clause-left left kind _ _ (IsClauseFault.in_negated nesting text negated not is) = omega (arith, shorter_Begins Not text negated not (λ e. cc), formula-left left kind nesting negated is)
+  clause-left left kind _ _ (IsClauseFault.in_negated nesting text negated not is) = omega
+      (arith, shorter_Begins Not text negated not (λ e. cc), formula-left left kind nesting negated is)
 
   clauses-left : (left : List ℕ) (kind : TextKind) (nesting : ℕ) (text : List ℕ) → AreFaultyClauses left kind nesting text → length left ≤ length text
   clauses-left left kind _ _ (AreFaultyClauses.in_clause nesting text is) = clause-left left kind nesting text is
-  clauses-left left kind _ _ (AreFaultyClauses.no_comma nesting text positive formula ended stands no_comma no_brace is) = omega (arith, shorter_clause nesting text positive formula ended stands, misplaced-left ended left kind is)
+  clauses-left left kind _ _ (AreFaultyClauses.no_comma nesting text positive formula ended stands no_comma no_brace is) = omega
+      (arith, shorter_clause nesting text positive formula ended stands, misplaced-left ended left kind is)
   clauses-left left kind _ _ (AreFaultyClauses.in_others nesting text positive formula ended next stands comma are) =
-      omega (arith, shorter_clause nesting text positive formula ended stands, shorter_Begins Comma ended next comma (λ e. cc), clauses-left left kind nesting next are)
+      omega (
+        arith,
+        shorter_clause nesting text positive formula ended stands,
+        shorter_Begins Comma ended next comma
+            (λ e. cc),
+        clauses-left left kind nesting next are,
+      )
 
 pub text-left : (text left : List ℕ) (kind : TextKind) → IsTextFault text left kind → length left ≤ length text
 text-left text left kind (IsTextFault.in_formula is) = formula-left left kind 1 text is
-text-left text left kind (IsTextFault.behind_formula formula rest stands some is) = omega (arith, shorter_formula formula 1 text rest stands, misplaced-left rest left kind is)
+text-left text left kind (IsTextFault.behind_formula formula rest stands some is) = omega
+    (arith, shorter_formula formula 1 text rest stands, misplaced-left rest left kind is)
 
 -- so much is left of the text
 pub left-within : (text : List ℕ) (left : ℕ) (kind : TextKind) → StopsAt (IsTextFault text) (Fault left kind) → left ≤ length text

@@ -21,7 +21,8 @@ choice P true one other then else' = then refl
 choice P false one other then else' = else' refl
 
 -- what holds of the token of each mark holds of the byte's
-module _ (byte : ℕ) (P : Token → Type 0) (less : byte ≡ 60 → P Less) (greater : byte ≡ 62 → P Greater) (open_brace : byte ≡ 123 → P OpenBrace) (close_brace : byte ≡ 125 → P CloseBrace) (comma : byte ≡ 44 → P Comma)
+module _ (byte : ℕ) (P : Token → Type 0) (less : byte ≡ 60 → P Less) (greater : byte ≡ 62 → P Greater) (open_brace : byte ≡ 123
+    → P OpenBrace) (close_brace : byte ≡ 125 → P CloseBrace) (comma : byte ≡ 44 → P Comma)
     (quote : byte ≡ 34 → P Quote) (other : P Other) where
   mark_token-is : P (mark_token byte)
   mark_token-is =
@@ -41,7 +42,9 @@ word_token-is P word truth and not other =
 
 mark-small : (byte : ℕ) → mark_token byte ≢ Other → byte < 128
 mark-small byte =
-    mark_token-is byte (λ token. token ≢ Other → byte < 128) (λ e _. omega (arith, e)) (λ e _. omega (arith, e)) (λ e _. omega (arith, e)) (λ e _. omega (arith, e)) (λ e _. omega (arith, e)) (λ e _. omega (arith, e))
+    mark_token-is byte (λ token. token ≢ Other
+    → byte < 128) (λ e _. omega (arith, e)) (λ e _. omega (arith, e)) (λ e _. omega (arith, e)) (λ e _. omega (arith, e)) (λ e _. omega (arith, e))
+    (λ e _. omega (arith, e))
     (λ none. absurd (none refl))
 
 mark-quote : (byte : ℕ) → mark_token byte ≡ Quote → byte ≡ 34
@@ -74,7 +77,8 @@ module _ (text : List ℕ) (some : 0 < length (word_of text)) where
 
 word-some : (byte : ℕ) (bytes : List ℕ) → is_ascii_alphabetic byte ≡ true → 0 < length (word_of (byte ∷ bytes))
 word-some byte bytes letter =
-    let count : position_or_len is_no_letter (byte ∷ bytes) ≡ 1 + position_or_len is_no_letter bytes = ap (λ letter. cond (not (not letter)) (1 + position_or_len is_no_letter bytes) 0) letter in
+    let count : position_or_len is_no_letter (byte ∷ bytes) ≡ 1 + position_or_len is_no_letter bytes = ap
+    (λ letter. cond (not (not letter)) (1 + position_or_len is_no_letter bytes) 0) letter in
     omega (arith, count, length-take (position_or_len is_no_letter (byte ∷ bytes)) (byte ∷ bytes))
 
 -- what stands behind a first byte that is a letter, or none
@@ -101,7 +105,8 @@ utf8_behind_front (byte ∷ bytes) utf8 known = by (is_ascii_alphabetic byte) re
   where
     by : (letter : Bool) → is_ascii_alphabetic byte ≡ letter → IsUtf8 (behind_front (byte ∷ bytes))
     by true letter = subst IsUtf8 (sym (letter-behind byte bytes letter)) (utf8_behind_word (byte ∷ bytes) (word-some byte bytes letter) utf8)
-    by false letter = subst IsUtf8 (sym (mark-behind byte bytes letter)) (utf8_behind [] byte bytes (mark-small byte (λ e. known (mark-token byte bytes letter ∙ e))) utf8)
+    by false letter = subst IsUtf8 (sym (mark-behind byte bytes letter))
+        (utf8_behind [] byte bytes (mark-small byte (λ e. known (mark-token byte bytes letter ∙ e))) utf8)
 
 utf8_behind_token : (text : List ℕ) → IsUtf8 text → token_of text ≢ Other → IsUtf8 (behind_token text)
 utf8_behind_token text utf8 known = utf8_behind_front (skip_blanks text) (utf8-skip_blanks text utf8) known
@@ -111,7 +116,14 @@ shorter_behind_front [] some = absurd (some refl)
 shorter_behind_front (byte ∷ bytes) some = by (is_ascii_alphabetic byte) refl
   where
     by : (letter : Bool) → is_ascii_alphabetic byte ≡ letter → length (behind_front (byte ∷ bytes)) < length (byte ∷ bytes)
-    by true letter = omega (arith, ap length (letter-behind byte bytes letter), length-drop (length (word_of (byte ∷ bytes))) (byte ∷ bytes), word-some byte bytes letter, within (byte ∷ bytes) (word-some byte bytes letter))
+    by true letter = omega (
+      arith,
+      ap length (letter-behind byte bytes letter),
+      length-drop (length (word_of (byte ∷ bytes)))
+          (byte ∷ bytes),
+      word-some byte bytes letter,
+      within (byte ∷ bytes) (word-some byte bytes letter),
+    )
     by false letter = omega (arith, ap length (mark-behind byte bytes letter))
 
 -- it is shorter than the text
@@ -124,7 +136,8 @@ quote_front (byte ∷ bytes) quote = by (is_ascii_alphabetic byte) refl
   where
     by : (letter : Bool) → is_ascii_alphabetic byte ≡ letter → byte ∷ bytes ≡ 34 ∷ behind_front (byte ∷ bytes)
     by true letter = absurd (word-no_quote (word_of (byte ∷ bytes)) (sym (letter-token byte bytes letter) ∙ quote))
-    by false letter = ap (λ byte. byte ∷ bytes) (mark-quote byte (sym (mark-token byte bytes letter) ∙ quote)) ∙ ap (λ bytes. 34 ∷ bytes) (sym (mark-behind byte bytes letter))
+    by false letter = ap (λ byte. byte ∷ bytes) (mark-quote byte (sym (mark-token byte bytes letter) ∙ quote))
+        ∙ ap (λ bytes. 34 ∷ bytes) (sym (mark-behind byte bytes letter))
 
 -- a quote stands before it, where that is the token
 quote_behind : (text : List ℕ) → token_of text ≡ Quote → skip_blanks text ≡ 34 ∷ behind_token text
@@ -132,7 +145,8 @@ quote_behind text quote = quote_front (skip_blanks text) quote
 
 -- ---- a token that begins the text
 -- it was found there
-pub Begins-found : (token : Token) (text rest : List ℕ) (found : Token) → found ≡ token_of text → rest ≡ behind_token text → found ≡ token → Begins token text rest
+pub Begins-found : (token : Token) (text rest : List ℕ) (found : Token) → found ≡ token_of text → rest ≡ behind_token text → found ≡ token
+    → Begins token text rest
 Begins-found token text rest found first behind is = record { first = sym first ∙ is; behind = behind }
 
 pub utf8_Begins : (token : Token) (text rest : List ℕ) → Begins token text rest → token ≢ Other → IsUtf8 text → IsUtf8 rest

@@ -88,11 +88,18 @@ mark_bytes byte =
     let quote = either_bytes (byte == 34) Quote Other (omega arith) none in
     let comma = either_bytes (byte == 44) Comma (if byte == 34 then Quote else Other) (omega arith) quote in
     let close = either_bytes (byte == 125) CloseBrace (if byte == 44 then Comma else (if byte == 34 then Quote else Other)) (omega arith) comma in
-    let open_brace = either_bytes (byte == 123) OpenBrace (if byte == 125 then CloseBrace else (if byte == 44 then Comma else (if byte == 34 then Quote else Other))) (omega arith) close in
-    let greater = either_bytes (byte == 62) Greater (if byte == 123 then OpenBrace else (if byte == 125 then CloseBrace else (if byte == 44 then Comma else (if byte == 34 then Quote else Other)))) (omega arith) open_brace in
-    either_bytes (byte == 60) Less (if byte == 62 then Greater else (if byte == 123 then OpenBrace else (if byte == 125 then CloseBrace else (if byte == 44 then Comma else (if byte == 34 then Quote else Other))))) (omega arith) greater
+    let open_brace = either_bytes (byte == 123) OpenBrace
+    (if byte == 125 then CloseBrace else (if byte == 44 then Comma else (if byte == 34 then Quote else Other))) (omega arith) close in
+    let greater = either_bytes (byte == 62) Greater
+    (if byte == 123 then OpenBrace else (if byte == 125 then CloseBrace else (if byte == 44 then Comma else (if byte == 34 then Quote else Other))))
+    (omega arith) open_brace in
+    either_bytes (byte == 60) Less
+    (if byte == 62 then Greater else
+    (if byte == 123 then OpenBrace else (if byte == 125 then CloseBrace else (if byte == 44 then Comma else (if byte == 34 then Quote else Other)))))
+    (omega arith) greater
 
-choice_bytes : (test : Bool) (one two : Token) (left right : List ℕ) (bytes : ℕ) → length left + bytes_of one ≤ bytes → length right + bytes_of two ≤ bytes → length (if test then left else right) + bytes_of (if test then one else two) ≤ bytes
+choice_bytes : (test : Bool) (one two : Token) (left right : List ℕ) (bytes : ℕ) → length left + bytes_of one ≤ bytes → length right + bytes_of two ≤ bytes
+    → length (if test then left else right) + bytes_of (if test then one else two) ≤ bytes
 choice_bytes true one two left right bytes first second = first
 choice_bytes false one two left right bytes first second = second
 
@@ -103,7 +110,8 @@ front_bytes (byte ∷ more) =
     let word : List ℕ = word_of text in
     let whole : length text ≡ length more + 1 = omega arith in
     let fits : length word ≤ length text = omega (arith, length-take (position_or_len (λ byte. not (is_ascii_alphabetic byte)) text) text) in
-    choice_bytes (is_ascii_alphabetic byte) (word_token word) (mark_token byte) (drop (length word) text) more (length text) (omega (arith, fits, length-drop (length word) text, word_bytes word)) (omega (arith, whole, mark_bytes byte))
+    choice_bytes (is_ascii_alphabetic byte) (word_token word) (mark_token byte) (drop (length word) text) more (length text)
+    (omega (arith, fits, length-drop (length word) text, word_bytes word)) (omega (arith, whole, mark_bytes byte))
 
 -- what stands behind a token is shorter by the token's bytes
 pub begins_bytes : (token : Token) (text rest : List ℕ) → Begins token text rest → length rest + bytes_of token ≤ length text

@@ -84,7 +84,8 @@ see_line-is place label next =
     let quoted : List ℕ = 34 ∷ (escaped label ++ 34 ∷ []) in
     let ending : List ℕ = 32 ∷ (last ++ 10 ∷ []) in
     let left : (first ++ word ++ quoted ++ 32 ∷ []) ++ last ++ 10 ∷ [] ≡ first ++ (word ++ (quoted ++ ending)) =
-    append_assoc (first ++ word ++ quoted ++ 32 ∷ []) last (10 ∷ []) ∙ append_assoc (first ++ word ++ quoted) (32 ∷ []) (last ++ 10 ∷ []) ∙ append_assoc (first ++ word) quoted ending ∙ append_assoc first word (quoted ++ ending) in
+    append_assoc (first ++ word ++ quoted ++ 32 ∷ []) last (10 ∷ []) ∙ append_assoc (first ++ word ++ quoted) (32 ∷ []) (last ++ 10 ∷ [])
+    ∙ append_assoc (first ++ word) quoted ending ∙ append_assoc first word (quoted ++ ending) in
     let closed : quoted ++ ending ≡ 34 ∷ (escaped label ++ 34 ∷ ending) = ap (λ l. 34 ∷ l) (append_assoc (escaped label) (34 ∷ []) ending) in
     let tail : List ℕ = 34 ∷ 32 ∷ (last ++ []) in
     let stripped : (34 ∷ (escaped label ++ tail)) ++ 10 ∷ [] ≡ 34 ∷ (escaped label ++ 34 ∷ ending) =
@@ -97,7 +98,8 @@ all_line-is : (place : ℕ) (clauses : List Clause) → node_text place (all_nod
 unfolding all_line
 all_line-is place clauses = simp append_assoc
 
-see-written : (place : ℕ) (label : List ℕ) (next : ℕ) → place < 2 ^ 64 → next < 2 ^ 64 → IsNodeForm (see_line place label next) (see_form place (escaped label) next)
+see-written : (place : ℕ) (label : List ℕ) (next : ℕ) → place < 2 ^ 64 → next < 2 ^ 64
+    → IsNodeForm (see_line place label next) (see_form place (escaped label) next)
 unfolding see_line
 see-written place label next small small_next =
     let rest : List ℕ = 32 ∷ (decimal next ++ []) in
@@ -122,7 +124,8 @@ see-written place label next small small_next =
       };
     }
 
-all-written : (place : ℕ) (clauses : List Clause) → place < 2 ^ 64 → All (λ clause. clause.node ≤ 4294967295) clauses → IsNodeForm (all_line place clauses) (all_form place clauses)
+all-written : (place : ℕ) (clauses : List Clause) → place < 2 ^ 64 → All (λ clause. clause.node ≤ 4294967295) clauses
+    → IsNodeForm (all_line place clauses) (all_form place clauses)
 unfolding all_line
 all-written place clauses small small_clauses = record {
   behind_number = 32 ∷ 97 ∷ 108 ∷ 108 ∷ flat_map clause_text clauses;
@@ -132,7 +135,8 @@ all-written place clauses small small_clauses = record {
   others = clauses-written clauses small_clauses;
 }
 
-pub written_line : (line : List ℕ) (place : ℕ) (node : SheetNode) → node_text place node ≡ line ++ codes "\n" → IsNodeAt place node → place ≤ 4294967295 → IsNodeLine line place node
+pub written_line : (line : List ℕ) (place : ℕ) (node : SheetNode) → node_text place node ≡ line ++ codes "\n" → IsNodeAt place node → place ≤ 4294967295
+    → IsNodeLine line place node
 written_line line place (see_node label next) text at small =
     let below : next < place = at.1 in
     let same : see_line place label next ≡ line = append_cancel_right (see_line place label next) line (10 ∷ []) (sym (see_line-is place label next) ∙ text) in
@@ -142,7 +146,8 @@ written_line line place (see_node label next) text at small =
       placed = record { small = (small, omega arith); next = (refl, below); rise = tt; given = (label, label-IsQuoted label at.0, refl) };
     }
 written_line line place (all_node clauses) text at small =
-    let small_clauses : All (λ clause. clause.node ≤ 4294967295) clauses = All-weaker (λ clause. clause.node < place) (λ clause. clause.node ≤ 4294967295) (λ clause below. omega arith) clauses at.1 in
+    let small_clauses : All (λ clause. clause.node ≤ 4294967295) clauses = All-weaker (λ clause. clause.node < place) (λ clause. clause.node ≤ 4294967295)
+    (λ clause below. omega arith) clauses at.1 in
     let same : all_line place clauses ≡ line = append_cancel_right (all_line place clauses) line (10 ∷ []) (sym (all_line-is place clauses) ∙ text) in
     record {
       form = all_form place clauses;

@@ -21,7 +21,8 @@ six-pieces held a b c d e f = simp append_assoc
 
 -- the line of an observation behind what is held, in the pieces in which it is put
 pub observation-pieces : (held : List ℕ) (number : ℕ) (label : Label) (next : ℕ)
-    → held ++ node_text number (see_node label next) ≡ ((held ++ ([] ++ (decimal number ++ codes " see "))) ++ label_text label) ++ (codes " " ++ (decimal next ++ codes "\n"))
+    → held ++ node_text number (see_node label next) ≡ ((held ++ ([] ++ (decimal number ++ codes " see "))) ++ label_text label) ++
+    (codes " " ++ (decimal next ++ codes "\n"))
 observation-pieces held number label next = six-pieces held (decimal number) (codes " see ") (label_text label) (codes " ") (decimal next) (codes "\n")
 
 -- what stands before the clauses of a line
@@ -36,14 +37,17 @@ conjunction-whole held number clauses = simp append_assoc
 -- the same, cut behind a clause
 pub conjunction-parts : (held : List ℕ) (number : ℕ) (clauses : List Clause) (k : ℕ) (d : Clause) → k < length clauses
     → held ++ node_text number (all_node clauses)
-    ≡ (((held ++ conjunction_front number) ++ flat_map clause_text (take k clauses)) ++ clause_text (get_or clauses k d)) ++ (flat_map clause_text (drop (k + 1) clauses) ++ codes "\n")
+    ≡ (((held ++ conjunction_front number) ++ flat_map clause_text (take k clauses)) ++ clause_text (get_or clauses k d)) ++
+    (flat_map clause_text (drop (k + 1) clauses) ++ codes "\n")
 conjunction-parts held number clauses k d within =
     let front : List ℕ = held ++ conjunction_front number in
     conjunction-whole held number clauses ∙ ap (λ text. text ++ codes "\n") (row-stopped clause_text front clauses k d within)
-    ∙ append_assoc ((front ++ flat_map clause_text (take k clauses)) ++ clause_text (get_or clauses k d)) (flat_map clause_text (drop (k + 1) clauses)) (codes "\n")
+    ∙ append_assoc ((front ++ flat_map clause_text (take k clauses)) ++ clause_text (get_or clauses k d)) (flat_map clause_text (drop (k + 1) clauses))
+    (codes "\n")
 
 -- lines of more nodes behind those of others
-nodes_text-append : (number : ℕ) (front back : List SheetNode) → nodes_text number (front ++ back) ≡ nodes_text number front ++ nodes_text (number + length front) back
+nodes_text-append : (number : ℕ) (front back : List SheetNode)
+    → nodes_text number (front ++ back) ≡ nodes_text number front ++ nodes_text (number + length front) back
 nodes_text-append number [] back = ap (λ n. nodes_text n back) (omega arith)
 nodes_text-append number (node ∷ front) back =
     let same : number + 1 + length front ≡ number + length (node ∷ front) = omega arith in
@@ -51,12 +55,15 @@ nodes_text-append number (node ∷ front) back =
     ∙ sym (append_assoc (node_text number node) (nodes_text (number + 1) front) (nodes_text (number + length (node ∷ front)) back))
 
 -- the line of one node more
-pub nodes-more : (nodes : List SheetNode) (k : ℕ) (node : SheetNode) → slice_get nodes k ≡ Some node → sheet_text (take k nodes) ++ node_text k node ≡ sheet_text (take (k + 1) nodes)
+pub nodes-more : (nodes : List SheetNode) (k : ℕ) (node : SheetNode) → slice_get nodes k ≡ Some node
+    → sheet_text (take k nodes) ++ node_text k node ≡ sheet_text (take (k + 1) nodes)
 nodes-more nodes k node at =
     let within : k < length nodes = slice_get_within nodes k node at in
-    let more : take (k + 1) nodes ≡ take k nodes ++ node ∷ [] = take_more nodes k node within ∙ ap (λ last. take k nodes ++ last ∷ []) (get_or_from_slice_get nodes k node node at) in
+    let more : take (k + 1) nodes ≡ take k nodes ++ node ∷ [] = take_more nodes k node within
+    ∙ ap (λ last. take k nodes ++ last ∷ []) (get_or_from_slice_get nodes k node node at) in
     let long : 0 + length (take k nodes) ≡ k = omega (arith, length-take-le k nodes (omega arith)) in
-    ap (λ text. sheet_text (take k nodes) ++ text) (sym (append-nil (node_text k node)) ∙ ap (λ n. nodes_text n (node ∷ [])) (sym long)) ∙ sym (nodes_text-append 0 (take k nodes) (node ∷ [])) ∙ ap sheet_text (sym more)
+    ap (λ text. sheet_text (take k nodes) ++ text) (sym (append-nil (node_text k node)) ∙ ap (λ n. nodes_text n (node ∷ [])) (sym long))
+    ∙ sym (nodes_text-append 0 (take k nodes) (node ∷ [])) ∙ ap sheet_text (sym more)
 
 -- the text up to a node, and the lines of the nodes after it
 pub nodes-parts : (nodes : List SheetNode) (k : ℕ) (node : SheetNode) → slice_get nodes k ≡ Some node

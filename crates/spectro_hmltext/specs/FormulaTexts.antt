@@ -19,7 +19,8 @@ abbrev mutual
   -- the formula stands at the front of the text, in as many others as its nesting is above 1, and the rest behind it
   pub StandsFormula : ℕ → List ℕ → Formula → List ℕ → Type 0
   StandsFormula nesting text (see label formula) rest =
-      (nesting ≤ 256) × (opened : List ℕ) × Begins Less text opened × (labelled : List ℕ) × StandsLabel opened label labelled × (closed : List ℕ) × Begins Greater labelled closed
+      (nesting ≤ 256) × (opened : List ℕ) × Begins Less text opened × (labelled : List ℕ) × StandsLabel opened label labelled × (closed : List ℕ)
+      × Begins Greater labelled closed
       × StandsFormula (nesting + 1) closed formula rest
   StandsFormula nesting text (all clauses) rest = (nesting ≤ 256) × StandsConjunction nesting text clauses rest
 
@@ -27,17 +28,21 @@ abbrev mutual
   pub StandsConjunction : ℕ → List ℕ → Clauses → List ℕ → Type 0
   StandsConjunction nesting text no_clauses rest = Begins Truth text rest
   StandsConjunction nesting text (plus formula clauses) rest =
-      (word : List ℕ) × Begins And text word × (opened : List ℕ) × Begins OpenBrace word opened × (ended : List ℕ) × StandsFormula (nesting + 1) opened formula ended × StandOthers (nesting + 1) ended clauses rest
+      (word : List ℕ) × Begins And text word × (opened : List ℕ) × Begins OpenBrace word opened × (ended : List ℕ)
+      × StandsFormula (nesting + 1) opened formula ended × StandOthers (nesting + 1) ended clauses rest
   StandsConjunction nesting text (minus formula clauses) rest =
-      (word : List ℕ) × Begins And text word × (opened : List ℕ) × Begins OpenBrace word opened × (negated : List ℕ) × Begins Not opened negated × (ended : List ℕ) × StandsFormula (nesting + 1) negated formula ended
+      (word : List ℕ) × Begins And text word × (opened : List ℕ) × Begins OpenBrace word opened × (negated : List ℕ) × Begins Not opened negated
+      × (ended : List ℕ) × StandsFormula (nesting + 1) negated formula ended
       × StandOthers (nesting + 1) ended clauses rest
 
   -- the clauses behind the first, each behind a comma, and a brace behind the last
   pub StandOthers : ℕ → List ℕ → Clauses → List ℕ → Type 0
   StandOthers nesting text no_clauses rest = Begins CloseBrace text rest
-  StandOthers nesting text (plus formula clauses) rest = (next : List ℕ) × Begins Comma text next × (ended : List ℕ) × StandsFormula nesting next formula ended × StandOthers nesting ended clauses rest
+  StandOthers nesting text (plus formula clauses) rest = (next : List ℕ) × Begins Comma text next × (ended : List ℕ)
+      × StandsFormula nesting next formula ended × StandOthers nesting ended clauses rest
   StandOthers nesting text (minus formula clauses) rest =
-      (next : List ℕ) × Begins Comma text next × (negated : List ℕ) × Begins Not next negated × (ended : List ℕ) × StandsFormula nesting negated formula ended × StandOthers nesting ended clauses rest
+      (next : List ℕ) × Begins Comma text next × (negated : List ℕ) × Begins Not next negated × (ended : List ℕ)
+      × StandsFormula nesting negated formula ended × StandOthers nesting ended clauses rest
 
 -- a formula stands so, behind `not` where the clause is negative
 abbrev pub StandsClause : ℕ → List ℕ → Bool → Formula → List ℕ → Type 0

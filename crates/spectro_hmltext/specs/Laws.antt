@@ -18,11 +18,13 @@ TextsOfFormulasHaveNoFault = (text : List ℕ) (formula : Formula) (fault : Text
 
 -- each text of UTF-8 is of a formula or has a first fault
 abbrev pub EachTextHasAFormulaOrAFault : Type 0
-EachTextHasAFormulaOrAFault = (text : List ℕ) → IsUtf8 text → ((formula : Formula) × IsFormulaText text formula) ⊎ ((fault : TextFault) × IsFirstFault text fault)
+EachTextHasAFormulaOrAFault = (text : List ℕ) → IsUtf8 text → ((formula : Formula) × IsFormulaText text formula) ⊎ ((fault : TextFault)
+    × IsFirstFault text fault)
 
 -- what is printed of a formula is a text of it, where it keeps the limits of a text
 abbrev pub PrintedTextsAreRead : Type 0
-PrintedTextsAreRead = (formula : Formula) → HasLabels formula → nesting_of formula ≤ 256 → length (formula_text formula) ≤ 65536 → IsFormulaText (formula_text formula) formula
+PrintedTextsAreRead = (formula : Formula) → HasLabels formula → nesting_of formula ≤ 256 → length (formula_text formula) ≤ 65536
+    → IsFormulaText (formula_text formula) formula
 
 -- what is printed of the formula of a text has at most twice as many bytes as a text may have
 abbrev pub PrintedTextsAreShort : Type 0

@@ -20,8 +20,10 @@ LinesOfNodesHaveNoFault = (line : List ℕ) (place : ℕ) (node : SheetNode) (er
 
 -- each line is of a node at a place or has a fault there
 abbrev pub EachLineHasANodeOrAFault : Type 0
-EachLineHasANodeOrAFault = (line : List ℕ) (place : ℕ) → ((node : SheetNode) × IsNodeLine line place node) ⊎ ((error : NodeError) × IsNodeFault line place error)
+EachLineHasANodeOrAFault = (line : List ℕ) (place : ℕ) → ((node : SheetNode) × IsNodeLine line place node) ⊎ ((error : NodeError)
+    × IsNodeFault line place error)
 
 -- the line that is written for a node, without its LF, is of this node, where the node may stand at its place, and its number is at most 4294967295
 abbrev pub WrittenNodesAreRead : Type 0
-WrittenNodesAreRead = (line : List ℕ) (place : ℕ) (node : SheetNode) → node_text place node ≡ line ++ codes "\n" → IsNodeAt place node → place ≤ 4294967295 → IsNodeLine line place node
+WrittenNodesAreRead = (line : List ℕ) (place : ℕ) (node : SheetNode) → node_text place node ≡ line ++ codes "\n" → IsNodeAt place node → place ≤ 4294967295
+    → IsNodeLine line place node

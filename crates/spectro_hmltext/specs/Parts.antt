@@ -56,7 +56,8 @@ pub record IsReadClause (nesting : ℕ) (text : List ℕ) (before after : List S
 abbrev pub StandClauses : ℕ → List ℕ → Clauses → List ℕ → Type 0
 StandClauses nesting text no_clauses rest = ⊥
 StandClauses nesting text (plus formula clauses) rest = (ended : List ℕ) × StandsFormula nesting text formula ended × StandOthers nesting ended clauses rest
-StandClauses nesting text (minus formula clauses) rest = (negated : List ℕ) × Begins Not text negated × (ended : List ℕ) × StandsFormula nesting negated formula ended × StandOthers nesting ended clauses rest
+StandClauses nesting text (minus formula clauses) rest = (negated : List ℕ) × Begins Not text negated × (ended : List ℕ)
+    × StandsFormula nesting negated formula ended × StandOthers nesting ended clauses rest
 
 -- the clauses that stand so, by number
 pub record AreRead (nesting : ℕ) (text : List ℕ) (before after : List SheetNode) (list : List Clause) (rest : List ℕ) : Type 0 where

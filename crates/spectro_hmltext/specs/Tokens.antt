@@ -12,7 +12,8 @@ abbrev pub word_of : List ℕ → List ℕ
 word_of text = before_first (λ byte. not (is_ascii_alphabetic byte)) text
 
 abbrev pub word_token : List ℕ → Token
-word_token word = if bytes_eq word (codes "tt") then Truth else (if bytes_eq word (codes "and") then And else (if bytes_eq word (codes "not") then Not else Other))
+word_token word = if bytes_eq word (codes "tt") then Truth else
+    (if bytes_eq word (codes "and") then And else (if bytes_eq word (codes "not") then Not else Other))
 
 abbrev pub mark_token : ℕ → Token
 mark_token byte =

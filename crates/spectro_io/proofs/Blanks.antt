@@ -66,7 +66,8 @@ pub list_all-reverse : (p : ℕ → Bool) (bytes : List ℕ) → list_all p byte
 list_all-reverse p [] all = refl
 list_all-reverse p (byte ∷ bytes) all =
     let parts = and_parts (p byte) (list_all p bytes) all in
-    ap (list_all p) (reverse-append (byte ∷ []) bytes) ∙ list_all-append p (reverse bytes) (byte ∷ []) ∙ and_from _ _ (list_all-reverse p bytes parts.1) (and_from _ _ parts.0 refl)
+    ap (list_all p) (reverse-append (byte ∷ []) bytes) ∙ list_all-append p (reverse bytes) (byte ∷ [])
+    ∙ and_from _ _ (list_all-reverse p bytes parts.1) (and_from _ _ parts.0 refl)
 
 -- bytes are what is left once they are trimmed, between blanks
 pub record IsTrimmed (bytes : List ℕ) : Type 0 where
@@ -82,15 +83,26 @@ trims bytes =
     let last = blanks_before (reverse (skip_blanks bytes)) in
     let rest : skip_blanks bytes ≡ trimmed bytes ++ reverse last.0 =
     sym (reverse-reverse (skip_blanks bytes)) ∙ ap reverse last.1 ∙ reverse-append last.0 (skip_blanks (reverse (skip_blanks bytes))) in
-    record { front = first.0; back = reverse last.0; whole = first.1 ∙ ap (λ l. first.0 ++ l) rest; before = first.2; behind = list_all-reverse is_blank last.0 last.2 }
+    record {
+      front = first.0;
+      back = reverse last.0;
+      whole = first.1
+          ∙ ap (λ l. first.0 ++ l) rest;
+      before = first.2;
+      behind = list_all-reverse is_blank last.0 last.2;
+    }
 
 -- between blanks, bytes that begin and end with one that is no blank are what trimming leaves
-pub trimmed_core : (front core back : List ℕ) (first last : ℕ) (others fore : List ℕ) → AreBlanks front → AreBlanks back → core ≡ first ∷ others → core ≡ fore ++ last ∷ []
+pub trimmed_core : (front core back : List ℕ) (first last : ℕ) (others fore : List ℕ) → AreBlanks front → AreBlanks back → core ≡ first ∷ others
+    → core ≡ fore ++ last ∷ []
     → is_blank first ≡ false → is_blank last ≡ false → trimmed (front ++ (core ++ back)) ≡ core
 trimmed_core front core back first last others fore before behind begins ends opens closes =
-    let skipped : skip_blanks (front ++ (core ++ back)) ≡ core ++ back = skip_blanks-blanks front (core ++ back) before ∙ ap (λ l. skip_blanks (l ++ back)) begins ∙ skip_blanks-other first (others ++ back) opens ∙ ap (λ l. l ++ back) (sym begins) in
+    let skipped : skip_blanks (front ++ (core ++ back)) ≡ core ++ back = skip_blanks-blanks front (core ++ back) before
+    ∙ ap (λ l. skip_blanks (l ++ back)) begins ∙ skip_blanks-other first (others ++ back) opens ∙ ap (λ l. l ++ back) (sym begins) in
     let turned : reverse core ≡ last ∷ reverse fore = ap reverse ends ∙ reverse-append fore (last ∷ []) in
-    let left : skip_blanks (reverse (core ++ back)) ≡ reverse core = ap skip_blanks (reverse-append core back) ∙ skip_blanks-blanks (reverse back) (reverse core) (list_all-reverse is_blank back behind) ∙ ap skip_blanks turned ∙ skip_blanks-other last (reverse fore) closes ∙ sym turned in
+    let left : skip_blanks (reverse (core ++ back)) ≡ reverse core = ap skip_blanks (reverse-append core back)
+    ∙ skip_blanks-blanks (reverse back) (reverse core) (list_all-reverse is_blank back behind) ∙ ap skip_blanks turned
+    ∙ skip_blanks-other last (reverse fore) closes ∙ sym turned in
     ap (λ l. reverse (skip_blanks (reverse l))) skipped ∙ ap reverse left ∙ reverse-reverse core
 
 -- what stands between blanks, from a quote to a quote, is what is left

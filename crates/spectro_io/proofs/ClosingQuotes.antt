@@ -11,17 +11,20 @@ use Rattle.spectro_io.specs.ClosingQuotes.{closing_from}
 use Rattle.spectro_io.specs.QuotedLabels.{is_closed_behind, IsInQuotes, BeginsInQuotes}
 
 -- where what stands before a quote is closed, the quote is found
-closing-closed : (inside rest : List ℕ) (place : ℕ) (backslash : Bool) → is_closed_behind backslash inside ≡ true → closing_from place backslash (inside ++ 34 ∷ rest) ≡ Some (place + length inside)
+closing-closed : (inside rest : List ℕ) (place : ℕ) (backslash : Bool) → is_closed_behind backslash inside ≡ true
+    → closing_from place backslash (inside ++ 34 ∷ rest) ≡ Some (place + length inside)
 closing-closed [] rest place true closed = absurd (true≢false (sym closed))
 closing-closed [] rest place false closed = ap Some (omega arith)
-closing-closed (byte ∷ inside) rest place backslash closed = by (not backslash && (byte == 34)) refl (closing-closed inside rest (place + 1) (not backslash && (byte == 92)))
+closing-closed (byte ∷ inside) rest place backslash closed = by (not backslash && (byte == 34)) refl
+    (closing-closed inside rest (place + 1) (not backslash && (byte == 92)))
   where
     by : (ends : Bool) → (not backslash && (byte == 34)) ≡ ends
         → (is_closed_behind (not backslash && (byte == 92)) inside ≡ true → closing_from (place + 1) (not backslash && (byte == 92)) (inside ++ 34 ∷ rest) ≡ Some (place + 1 + length inside))
         → closing_from place backslash (byte ∷ inside ++ 34 ∷ rest) ≡ Some (place + length (byte ∷ inside))
     by true e later = absurd (true≢false (sym closed ∙ ap (λ ends. cond ends false (is_closed_behind (not backslash && (byte == 92)) inside)) e))
     by false e later =
-        let inner : is_closed_behind (not backslash && (byte == 92)) inside ≡ true = sym (ap (λ ends. cond ends false (is_closed_behind (not backslash && (byte == 92)) inside)) e) ∙ closed in
+        let inner : is_closed_behind (not backslash && (byte == 92)) inside ≡ true = sym
+        (ap (λ ends. cond ends false (is_closed_behind (not backslash && (byte == 92)) inside)) e) ∙ closed in
         rw e (later inner ∙ ap Some (omega arith))
 
 -- the quote that is found closes what stands before it
@@ -37,14 +40,16 @@ quote-closes backslash byte e = let parts = and_parts (not backslash) (byte == 3
 
 closing-found : (bytes : List ℕ) (place found : ℕ) (backslash : Bool) → closing_from place backslash bytes ≡ Some found → IsClosing bytes place found backslash
 closing-found [] place found backslash e = absurd (none-some found e)
-closing-found (byte ∷ bytes) place found backslash e = by (not backslash && (byte == 34)) refl (closing-found bytes (place + 1) found (not backslash && (byte == 92)))
+closing-found (byte ∷ bytes) place found backslash e = by (not backslash && (byte == 34)) refl
+    (closing-found bytes (place + 1) found (not backslash && (byte == 92)))
   where
     by : (ends : Bool) → (not backslash && (byte == 34)) ≡ ends
         → (closing_from (place + 1) (not backslash && (byte == 92)) bytes ≡ Some found → IsClosing bytes (place + 1) found (not backslash && (byte == 92)))
         → IsClosing (byte ∷ bytes) place found backslash
     by true is later =
         let ends = quote-closes backslash byte is in
-        let at : place ≡ found = same_Some place found (sym (ap (λ ends. cond ends (Some place) (closing_from (place + 1) (not backslash && (byte == 92)) bytes)) is) ∙ e) in
+        let at : place ≡ found = same_Some place found
+        (sym (ap (λ ends. cond ends (Some place) (closing_from (place + 1) (not backslash && (byte == 92)) bytes)) is) ∙ e) in
         record { inside = []; rest = bytes; whole = ap (λ byte. byte ∷ bytes) ends.1; closed = ends.0; at = omega arith }
     by false is later =
         let inner = later (sym (ap (λ ends. cond ends (Some place) (closing_from (place + 1) (not backslash && (byte == 92)) bytes)) is) ∙ e) in
@@ -59,19 +64,24 @@ closing-found (byte ∷ bytes) place found backslash e = by (not backslash && (b
 -- what stands behind the quote that is found
 behind-quote : (inside rest : List ℕ) → drop (length inside + 1) (inside ++ 34 ∷ rest) ≡ rest
 behind-quote [] rest = refl
-behind-quote (byte ∷ inside) rest = let n : length (byte ∷ inside) + 1 ≡ suc (length inside + 1) = omega arith in ap (λ n. drop n (byte ∷ inside ++ 34 ∷ rest)) n ∙ behind-quote inside rest
+behind-quote (byte ∷ inside) rest = let n : length (byte ∷ inside) + 1 ≡ suc (length inside + 1) = omega arith in ap
+    (λ n. drop n (byte ∷ inside ++ 34 ∷ rest)) n ∙ behind-quote inside rest
 
 -- ---- texts that begin in quotes
 closing-quotes : (text inside rest : List ℕ) → BeginsInQuotes text inside rest → closing_from 0 false (inside ++ 34 ∷ rest) ≡ Some (length inside)
 closing-quotes text inside rest begins = closing-closed inside rest 0 false begins.closed ∙ ap Some (omega arith)
 
 -- what stands between the quotes is one, and so is what is left
-pub quotes-once : (text inside rest other others : List ℕ) → BeginsInQuotes text inside rest → BeginsInQuotes text other others → (inside ≡ other) × (rest ≡ others)
+pub quotes-once : (text inside rest other others : List ℕ) → BeginsInQuotes text inside rest → BeginsInQuotes text other others
+    → (inside ≡ other) × (rest ≡ others)
 quotes-once text inside rest other others one two =
     let same : inside ++ 34 ∷ rest ≡ other ++ 34 ∷ others = ap (drop 1) (sym one.whole ∙ two.whole) in
-    let place : length inside ≡ length other = same_Some (length inside) (length other) (sym (closing-quotes text inside rest one) ∙ ap (closing_from 0 false) same ∙ closing-quotes text other others two) in
-    let front : inside ≡ other = sym (take-append_seam inside (34 ∷ rest)) ∙ ap (λ n. take n (inside ++ 34 ∷ rest)) place ∙ ap (take (length other)) same ∙ take-append_seam other (34 ∷ others) in
-    let back : 34 ∷ rest ≡ 34 ∷ others = sym (drop-append_seam inside (34 ∷ rest)) ∙ ap (λ n. drop n (inside ++ 34 ∷ rest)) place ∙ ap (drop (length other)) same ∙ drop-append_seam other (34 ∷ others) in
+    let place : length inside ≡ length other = same_Some (length inside) (length other) (sym (closing-quotes text inside rest one)
+    ∙ ap (closing_from 0 false) same ∙ closing-quotes text other others two) in
+    let front : inside ≡ other = sym (take-append_seam inside (34 ∷ rest)) ∙ ap (λ n. take n (inside ++ 34 ∷ rest)) place ∙ ap (take (length other)) same
+    ∙ take-append_seam other (34 ∷ others) in
+    let back : 34 ∷ rest ≡ 34 ∷ others = sym (drop-append_seam inside (34 ∷ rest)) ∙ ap (λ n. drop n (inside ++ 34 ∷ rest)) place
+    ∙ ap (drop (length other)) same ∙ drop-append_seam other (34 ∷ others) in
     (front, ap (drop 1) back)
 
 module _ (text opened : List ℕ) (opens : text ≡ 34 ∷ opened) where
@@ -79,9 +89,12 @@ module _ (text opened : List ℕ) (opens : text ≡ 34 ∷ opened) where
   found-quotes found e =
       let closing = closing-found opened 0 found false (sym e) in
       let at : found ≡ length closing.inside = omega (arith, closing.at) in
-      let inside : take found opened ≡ closing.inside = ap (λ n. take n opened) at ∙ ap (take (length closing.inside)) closing.whole ∙ take-append_seam closing.inside (34 ∷ closing.rest) in
-      let rest : drop (found + 1) opened ≡ closing.rest = ap (λ n. drop (n + 1) opened) at ∙ ap (drop (length closing.inside + 1)) closing.whole ∙ behind-quote closing.inside closing.rest in
-      let whole : opened ≡ take found opened ++ 34 ∷ drop (found + 1) opened = closing.whole ∙ ap (λ inside. inside ++ 34 ∷ closing.rest) (sym inside) ∙ ap (λ rest. take found opened ++ 34 ∷ rest) (sym rest) in
+      let inside : take found opened ≡ closing.inside = ap (λ n. take n opened) at ∙ ap (take (length closing.inside)) closing.whole
+      ∙ take-append_seam closing.inside (34 ∷ closing.rest) in
+      let rest : drop (found + 1) opened ≡ closing.rest = ap (λ n. drop (n + 1) opened) at ∙ ap (drop (length closing.inside + 1)) closing.whole
+      ∙ behind-quote closing.inside closing.rest in
+      let whole : opened ≡ take found opened ++ 34 ∷ drop (found + 1) opened = closing.whole ∙ ap (λ inside. inside ++ 34 ∷ closing.rest) (sym inside)
+      ∙ ap (λ rest. take found opened ++ 34 ∷ rest) (sym rest) in
       record { whole = opens ∙ ap (λ l. 34 ∷ l) whole; closed = ap (is_closed_behind false) inside ∙ closing.closed }
 
   pub not-unclosed : None ≡ closing_from 0 false opened → (inside rest : List ℕ) → ¬ BeginsInQuotes text inside rest

@@ -18,7 +18,8 @@ ended_line bytes = take (end_of_line bytes) bytes
 end-other : (byte : ℕ) (bytes : List ℕ) → (byte == 10) ≡ false → end_of_line (byte ∷ bytes) ≡ suc (end_of_line bytes)
 end-other byte bytes other = rw other (omega arith)
 
-before-other : (byte : ℕ) (bytes : List ℕ) → (byte == 10) ≡ false → before_first (λ byte. byte == 10) (byte ∷ bytes) ≡ byte ∷ before_first (λ byte. byte == 10) bytes
+before-other : (byte : ℕ) (bytes : List ℕ) → (byte == 10) ≡ false
+    → before_first (λ byte. byte == 10) (byte ∷ bytes) ≡ byte ∷ before_first (λ byte. byte == 10) bytes
 before-other byte bytes other = rw (take_while-cons (λ byte. not (byte == 10)) byte bytes, other) refl
 
 before-ends : (byte : ℕ) (bytes : List ℕ) → (byte == 10) ≡ true → before_first (λ byte. byte == 10) (byte ∷ bytes) ≡ []
@@ -66,7 +67,8 @@ pub first_line-ended_line : (bytes : List ℕ) → first_line (ended_line bytes)
 first_line-ended_line bytes = ap without_cr (ends_there bytes)
 
 -- where the next line begins
-pub place-next : (text : List ℕ) (at next : ℕ) → at < length text → next ≤ length text → at < next → drop next text ≡ after_line (drop at text) → next ≡ at + length (ended_line (drop at text))
+pub place-next : (text : List ℕ) (at next : ℕ) → at < length text → next ≤ length text → at < next → drop next text ≡ after_line (drop at text)
+    → next ≡ at + length (ended_line (drop at text))
 place-next text at next some within after rest =
     let end = end_of_line (drop at text) in
     omega (arith, ap length rest, length-drop next text, length-drop at text, length-drop end (drop at text), length-take end (drop at text))

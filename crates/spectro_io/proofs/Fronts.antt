@@ -8,7 +8,8 @@ use Rattle.std.proofs.lemmas.Slice.Eq.{bytes_eq-Decides}
 use Rattle.spectro_io.specs.Fronts.{◌>>=◌, after}
 
 -- what two readings in a row gave
-pub bind_some : {A B : Type 0} (first : Option A) (second : A → Option B) (y : B) → (first >>= second) ≡ Some y → (x : A) × (first ≡ Some x) × (second x ≡ Some y)
+pub bind_some : {A B : Type 0} (first : Option A) (second : A → Option B) (y : B) → (first >>= second) ≡ Some y
+    → (x : A) × (first ≡ Some x) × (second x ≡ Some y)
 bind_some None second y e = cc
 bind_some (Some x) second y e = (x, refl, e)
 
@@ -21,4 +22,5 @@ after_complete words rest =
 pub after_sound : (words text rest : List ℕ) → after words text ≡ Some rest → text ≡ words ++ rest
 after_sound words text rest e =
     let found = cond_some _ _ _ e in
-    sym (take-append-drop (length words) text) ∙ ap (λ l. l ++ drop (length words) text) ((bytes_eq-Decides (take (length words) text) words).0 found.0) ∙ ap (λ l. words ++ l) found.1
+    sym (take-append-drop (length words) text) ∙ ap (λ l. l ++ drop (length words) text) ((bytes_eq-Decides (take (length words) text) words).0 found.0)
+    ∙ ap (λ l. words ++ l) found.1

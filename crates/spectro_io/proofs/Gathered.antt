@@ -25,14 +25,17 @@ pub take-front : (limit : ℕ) (xs ys : List ℕ) → take limit (take limit xs 
 take-front limit xs ys =
     elim (cases_lt (length xs) limit) [
       | inl less ↦ ap (λ l. take limit (l ++ ys)) (take_all limit xs (omega arith))
-      | inr more ↦ take-append-le limit (take limit xs) ys (omega (arith, length-take limit xs)) ∙ take-take limit limit xs (omega arith) ∙ sym (take-append-le limit xs ys more)
+      | inr more ↦ take-append-le limit (take limit xs) ys (omega (arith, length-take limit xs)) ∙ take-take limit limit xs (omega arith)
+          ∙ sym (take-append-le limit xs ys more)
     ]
 
 -- a line loses at most one byte with its CR, and keeps those before it
-without_cr-front : (limit : ℕ) (line : List ℕ) → limit < length line → (take limit (without_cr line) ≡ take limit line) × (length line ≤ length (without_cr line) + 1)
+without_cr-front : (limit : ℕ) (line : List ℕ) → limit < length line
+    → (take limit (without_cr line) ≡ take limit line) × (length line ≤ length (without_cr line) + 1)
 without_cr-front limit line long = cases _
   where
-    cases : (cr : Bool) → (take limit (cond cr (take (length line - 1) line) line) ≡ take limit line) × (length line ≤ length (cond cr (take (length line - 1) line) line) + 1)
+    cases : (cr : Bool) → (take limit (cond cr (take (length line - 1) line) line) ≡ take limit line) ×
+        (length line ≤ length (cond cr (take (length line - 1) line) line) + 1)
     cases true = (take-take limit (length line - 1) line (omega arith), omega (arith, length-take (length line - 1) line))
     cases false = (refl, omega arith)
 
@@ -40,7 +43,8 @@ without_cr-front limit line long = cases _
 pub kept-front : (limit : ℕ) (line : List ℕ) → take limit (without_cr (take (limit + 2) line)) ≡ take limit (without_cr line)
 kept-front limit line = elim (cases_lt (length line) (limit + 2)) [
   | inl less ↦ ap (λ l. take limit (without_cr l)) (take_all (limit + 2) line (omega arith))
-  | inr more ↦ (without_cr-front limit (take (limit + 2) line) (omega (arith, length-take (limit + 2) line))).0 ∙ take-take limit (limit + 2) line (omega arith) ∙ sym (without_cr-front limit line (omega arith)).0
+  | inr more ↦ (without_cr-front limit (take (limit + 2) line) (omega (arith, length-take (limit + 2) line))).0
+      ∙ take-take limit (limit + 2) line (omega arith) ∙ sym (without_cr-front limit line (omega arith)).0
 ]
 
 -- and whether the line is longer
@@ -91,5 +95,6 @@ part-rest piece at end count within = elim (cases_lt end (at + count)) [
 
 -- a reader whose line and bytes ahead are the same is the same
 pub same-reader : (taken : ℕ) (begun begun' ahead ahead' line : List ℕ) (cut : Bool) → begun ≡ begun' → ahead ≡ ahead'
-    → ◌≡◌ {A = ReaderState} (record { taken = taken; begun = begun; ahead = ahead; line = line; cut = cut }) (record { taken = taken; begun = begun'; ahead = ahead'; line = line; cut = cut })
+    → ◌≡◌ {A = ReaderState} (record { taken = taken; begun = begun; ahead = ahead; line = line; cut = cut })
+    (record { taken = taken; begun = begun'; ahead = ahead'; line = line; cut = cut })
 same-reader taken begun begun' ahead ahead' line cut front rest = cc

@@ -39,7 +39,8 @@ module _ {X : Type 0} (p : X → Bool) where
   pub place-position : (xs : List X) → unwrap_or (position p xs) (length xs) ≡ position_or_len p xs
   place-position xs = placed (cases_lt (position_or_len p xs) (length xs)) (prefix_len-le-length (λ x. not (p x)) xs)
     where
-      placed : ((position_or_len p xs < length xs) ⊎ (length xs ≤ position_or_len p xs)) → position_or_len p xs ≤ length xs → unwrap_or (position p xs) (length xs) ≡ position_or_len p xs
+      placed : ((position_or_len p xs < length xs) ⊎ (length xs ≤ position_or_len p xs)) → position_or_len p xs ≤ length xs
+          → unwrap_or (position p xs) (length xs) ≡ position_or_len p xs
       placed (inl less) within = grind (arith, common_steps)
       placed (inr more) within = grind (arith, common_steps)
 

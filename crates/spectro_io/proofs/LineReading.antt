@@ -22,7 +22,8 @@ takes-none reader left = record {
 }
 
 -- what was taken and answers in one way answers in another
-pub takes-as : (old mid new : ReaderState) (before after : Option (List ℕ)) (A B : List ℕ → Type 0) → Takes old mid before after A → new.taken ≡ mid.taken → ((bytes : List ℕ) → A bytes → B bytes) → Takes old new before after B
+pub takes-as : (old mid new : ReaderState) (before after : Option (List ℕ)) (A B : List ℕ → Type 0) → Takes old mid before after A → new.taken ≡ mid.taken
+    → ((bytes : List ℕ) → A bytes → B bytes) → Takes old new before after B
 takes-as old mid new before after A B takes same step = record {
   bytes = takes.bytes;
   front = takes.front;
@@ -31,7 +32,8 @@ takes-as old mid new before after A B takes same step = record {
 }
 
 -- more was taken
-pub takes-more : (old mid new : ReaderState) (before between after : Option (List ℕ)) (more : List ℕ) (A B : List ℕ → Type 0) → Takes old mid before between A → Consumes between after more → new.taken ≡ mid.taken + length more
+pub takes-more : (old mid new : ReaderState) (before between after : Option (List ℕ)) (more : List ℕ) (A B : List ℕ → Type 0)
+    → Takes old mid before between A → Consumes between after more → new.taken ≡ mid.taken + length more
     → ((bytes : List ℕ) → A bytes → B (bytes ++ more)) → Takes old new before after B
 takes-more old mid new before between after more A B takes taken grows step = record {
   bytes = takes.bytes ++ more;
@@ -42,31 +44,39 @@ takes-more old mid new before between after more A B takes taken grows step = re
 
 -- an LF among what is held is ahead
 pub held-ahead : (reader : ReaderState) (held : List ℕ) → Holds reader held → has_line_feed held ≡ true → has_line_feed reader.ahead ≡ true
-held-ahead reader held holds found = sym (ap (λ b. b || has_line_feed reader.ahead) holds.unended) ∙ sym (list_any-append (λ byte. byte == 10) holds.front reader.ahead) ∙ sym (ap has_line_feed holds.whole) ∙ found
+held-ahead reader held holds found = sym (ap (λ b. b || has_line_feed reader.ahead) holds.unended)
+    ∙ sym (list_any-append (λ byte. byte == 10) holds.front reader.ahead) ∙ sym (ap has_line_feed holds.whole) ∙ found
 
 -- where no LF is ahead, all that is ahead belongs to the line that is begun
 pub gathered-unended : (reader : ReaderState) (held : List ℕ) → has_line_feed reader.ahead ≡ false → Holds reader held → HoldsUnended (gathered reader) held
 gathered-unended reader held none holds =
     let all : before_first (λ byte. byte == 10) reader.ahead ≡ reader.ahead = before-none (λ byte. byte == 10) reader.ahead none in
-    let unended : has_line_feed (holds.front ++ reader.ahead) ≡ false = rw (list_any-append (λ byte. byte == 10) holds.front reader.ahead, holds.unended) none in
+    let unended : has_line_feed (holds.front ++ reader.ahead) ≡ false = rw
+    (list_any-append (λ byte. byte == 10) holds.front reader.ahead, holds.unended) none in
     record {
       unended = rw holds.whole unended;
       held = record {
         front = holds.front ++ reader.ahead;
         unended = unended;
-        begun = ap (λ bytes. take (line_limit + 2) (reader.begun ++ bytes)) all ∙ ap (λ begun. take (line_limit + 2) (begun ++ reader.ahead)) holds.begun ∙ take-front (line_limit + 2) holds.front reader.ahead;
-        whole = holds.whole ∙ sym (append-nil (holds.front ++ reader.ahead)) ∙ ap (λ bytes. (holds.front ++ reader.ahead) ++ bytes) (sym (after-none (λ byte. byte == 10) reader.ahead none));
+        begun = ap (λ bytes. take (line_limit + 2) (reader.begun ++ bytes)) all ∙ ap (λ begun. take (line_limit + 2) (begun ++ reader.ahead)) holds.begun
+            ∙ take-front (line_limit + 2) holds.front reader.ahead;
+        whole = holds.whole ∙ sym (append-nil (holds.front ++ reader.ahead))
+            ∙ ap (λ bytes. (holds.front ++ reader.ahead) ++ bytes) (sym (after-none (λ byte. byte == 10) reader.ahead none));
       };
     }
 
 -- a line that an LF ends is answered
-pub gathered-line : (reader : ReaderState) (after : Option (List ℕ)) (held : List ℕ) → has_line_feed reader.ahead ≡ true → Holds reader held → AnswersLine (answered (gathered reader)) after held
+pub gathered-line : (reader : ReaderState) (after : Option (List ℕ)) (held : List ℕ) → has_line_feed reader.ahead ≡ true → Holds reader held
+    → AnswersLine (answered (gathered reader)) after held
 gathered-line reader after held found holds =
     let front = holds.front in
-    let line : before_first (λ byte. byte == 10) held ≡ front ++ before_first (λ byte. byte == 10) reader.ahead = ap (before_first (λ byte. byte == 10)) holds.whole ∙ before-append (λ byte. byte == 10) front reader.ahead holds.unended in
+    let line : before_first (λ byte. byte == 10) held ≡ front ++ before_first (λ byte. byte == 10) reader.ahead = ap
+    (before_first (λ byte. byte == 10)) holds.whole ∙ before-append (λ byte. byte == 10) front reader.ahead holds.unended in
     let rest : after_line held ≡ after_line reader.ahead = ap after_line holds.whole ∙ after-append (λ byte. byte == 10) front reader.ahead holds.unended in
-    let begun : take (line_limit + 2) (reader.begun ++ before_first (λ byte. byte == 10) reader.ahead) ≡ take (line_limit + 2) (before_first (λ byte. byte == 10) held) =
-    ap (λ begun. take (line_limit + 2) (begun ++ before_first (λ byte. byte == 10) reader.ahead)) holds.begun ∙ take-front (line_limit + 2) front (before_first (λ byte. byte == 10) reader.ahead) ∙ ap (take (line_limit + 2)) (sym line) in
+    let begun : take (line_limit + 2) (reader.begun ++ before_first (λ byte. byte == 10) reader.ahead) ≡ take (line_limit + 2)
+    (before_first (λ byte. byte == 10) held) =
+    ap (λ begun. take (line_limit + 2) (begun ++ before_first (λ byte. byte == 10) reader.ahead)) holds.begun
+    ∙ take-front (line_limit + 2) front (before_first (λ byte. byte == 10) reader.ahead) ∙ ap (take (line_limit + 2)) (sym line) in
     let ended : has_line_feed held ≡ true = rw (holds.whole, list_any-append (λ byte. byte == 10) front reader.ahead, holds.unended) found in
     record {
       line = ap (λ bytes. take line_limit (without_cr bytes)) begun ∙ kept-front line_limit (before_first (λ byte. byte == 10) held);
@@ -81,7 +91,8 @@ gathered-line reader after held found holds =
     some_found (byte ∷ bytes) found = omega arith
 
 -- what was read goes after what is held
-pub refilled-holds : (reader new : ReaderState) (held : List ℕ) → reader.ahead ≡ [] → new.begun ≡ reader.begun → Holds reader held → Holds new (held ++ new.ahead)
+pub refilled-holds : (reader new : ReaderState) (held : List ℕ) → reader.ahead ≡ [] → new.begun ≡ reader.begun → Holds reader held
+    → Holds new (held ++ new.ahead)
 refilled-holds reader new held done same holds = record {
   front = holds.front;
   unended = holds.unended;
@@ -90,7 +101,8 @@ refilled-holds reader new held done same holds = record {
 }
 
 -- the last line is answered, which no LF ends
-pub last-line : (reader : ReaderState) (after : Option (List ℕ)) (bytes : List ℕ) → reader.ahead ≡ [] → (reader.begun ≡ [] → ⊥) → HasReadAll (answered reader) after → Holds reader bytes → AnswersLine (answered reader) after bytes
+pub last-line : (reader : ReaderState) (after : Option (List ℕ)) (bytes : List ℕ) → reader.ahead ≡ [] → (reader.begun ≡ [] → ⊥)
+    → HasReadAll (answered reader) after → Holds reader bytes → AnswersLine (answered reader) after bytes
 last-line reader after bytes done begun read holds =
     let all : bytes ≡ holds.front = holds.whole ∙ ap (λ ahead. holds.front ++ ahead) done ∙ append-nil holds.front in
     let none : has_line_feed bytes ≡ false = ap has_line_feed all ∙ holds.unended in
@@ -109,9 +121,11 @@ last-line reader after bytes done begun read holds =
     some_bytes (byte ∷ bytes) is = omega arith
 
 -- nothing is left
-pub last-none : (reader : ReaderState) (after : Option (List ℕ)) (bytes : List ℕ) → reader.ahead ≡ [] → reader.begun ≡ [] → HasReadAll reader after → Holds reader bytes → AnswersEnd reader after bytes
+pub last-none : (reader : ReaderState) (after : Option (List ℕ)) (bytes : List ℕ) → reader.ahead ≡ [] → reader.begun ≡ [] → HasReadAll reader after
+    → Holds reader bytes → AnswersEnd reader after bytes
 last-none reader after bytes done begun read holds =
-    let none : holds.front ≡ [] = nil_from_length holds.front (omega (arith, length-take (line_limit + 2) holds.front, ap length holds.begun, ap length begun)) in
+    let none : holds.front ≡ [] = nil_from_length holds.front
+    (omega (arith, length-take (line_limit + 2) holds.front, ap length holds.begun, ap length begun)) in
     record {
       none = holds.whole ∙ ap (λ ahead. holds.front ++ ahead) done ∙ append-nil holds.front ∙ none;
       held = record { front = []; unended = refl; begun = begun; whole = sym done };

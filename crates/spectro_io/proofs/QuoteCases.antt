@@ -9,7 +9,8 @@ use Rattle.spectro_io.proofs.ClosingQuotes.{found-quotes, in_quotes-begin, not-o
 use Rattle.spectro_io.proofs.QuotedLabels.{found-IsQuoted, not_long, not_none}
 
 -- the text begins in quotes, or does not
-pub quotes-cases : (text : List ℕ) → ((inside : List ℕ) × (rest : List ℕ) × BeginsInQuotes text inside rest) ⊎ ((inside rest : List ℕ) → ¬ BeginsInQuotes text inside rest)
+pub quotes-cases : (text : List ℕ)
+    → ((inside : List ℕ) × (rest : List ℕ) × BeginsInQuotes text inside rest) ⊎ ((inside rest : List ℕ) → ¬ BeginsInQuotes text inside rest)
 quotes-cases text =
     elim (cases_Bool (bytes_eq (take 1 text) (34 ∷ []))) [
       | inl opens ↦ by (closing_from 0 false (drop 1 text)) refl (opens_with text (drop 1 text) opens refl)
@@ -29,15 +30,18 @@ in_quotes-cases text =
       | inr none ↦ inr (λ inside is. none inside [] (in_quotes-begin text inside is))
     ]
   where
-    by : (inside rest : List ℕ) → BeginsInQuotes text inside rest → ((inside : List ℕ) × IsInQuotes text inside) ⊎ ((inside : List ℕ) → ¬ IsInQuotes text inside)
+    by : (inside rest : List ℕ) → BeginsInQuotes text inside rest
+        → ((inside : List ℕ) × IsInQuotes text inside) ⊎ ((inside : List ℕ) → ¬ IsInQuotes text inside)
     by inside [] begins = inl (inside, record { whole = begins.whole; closed = begins.closed })
-    by inside (byte ∷ rest) begins = inr (λ other is. let none : byte ∷ rest ≡ [] = (quotes-once text inside (byte ∷ rest) other [] begins (in_quotes-begin text other is)).1 in cc)
+    by inside (byte ∷ rest) begins = inr
+        (λ other is. let none : byte ∷ rest ≡ [] = (quotes-once text inside (byte ∷ rest) other [] begins (in_quotes-begin text other is)).1 in cc)
 
 -- what stands between the quotes is of a label, or of none
 pub label-cases : (inside : List ℕ) → ((label : List ℕ) × IsQuoted inside label) ⊎ ((label : List ℕ) → ¬ IsQuoted inside label)
 label-cases inside = by (unescaped_behind false inside) refl
   where
-    by : (read : Option (List ℕ)) → read ≡ unescaped_behind false inside → ((label : List ℕ) × IsQuoted inside label) ⊎ ((label : List ℕ) → ¬ IsQuoted inside label)
+    by : (read : Option (List ℕ)) → read ≡ unescaped_behind false inside
+        → ((label : List ℕ) × IsQuoted inside label) ⊎ ((label : List ℕ) → ¬ IsQuoted inside label)
     by None none = inr (λ label is. not_none inside label is none)
     by (Some found) is =
         elim (cases_lt 8192 (length found)) [

@@ -31,16 +31,19 @@ pub escaped-append : (front back : List ℕ) → escaped (front ++ back) ≡ esc
 escaped-append [] back = refl
 escaped-append (byte ∷ front) back = by (is_escaped byte) refl (escaped-append front back)
   where
-    by : (special : Bool) → is_escaped byte ≡ special → escaped (front ++ back) ≡ escaped front ++ escaped back → escaped (byte ∷ front ++ back) ≡ escaped (byte ∷ front) ++ escaped back
+    by : (special : Bool) → is_escaped byte ≡ special → escaped (front ++ back) ≡ escaped front ++ escaped back
+        → escaped (byte ∷ front ++ back) ≡ escaped (byte ∷ front) ++ escaped back
     by true special later = rw (special, later) refl
     by false special later = rw (special, later) refl
 
 -- what is escaped is undone
 pub unescaped-escaped : (label : List ℕ) → has_line_feed label ≡ false → unescaped_behind false (escaped label) ≡ Some label
 unescaped-escaped [] none = refl
-unescaped-escaped (byte ∷ label) none = by (is_escaped byte) refl (or_parts (byte == 10) (has_line_feed label) none).0 (unescaped-escaped label (or_parts (byte == 10) (has_line_feed label) none).1)
+unescaped-escaped (byte ∷ label) none = by (is_escaped byte) refl (or_parts (byte == 10) (has_line_feed label) none).0
+    (unescaped-escaped label (or_parts (byte == 10) (has_line_feed label) none).1)
   where
-    by : (special : Bool) → is_escaped byte ≡ special → (byte == 10) ≡ false → unescaped_behind false (escaped label) ≡ Some label → unescaped_behind false (escaped (byte ∷ label)) ≡ Some (byte ∷ label)
+    by : (special : Bool) → is_escaped byte ≡ special → (byte == 10) ≡ false → unescaped_behind false (escaped label) ≡ Some label
+        → unescaped_behind false (escaped (byte ∷ label)) ≡ Some (byte ∷ label)
     by true special other later = rw (special, special, later) refl
     by false special other later =
         let parts = or_parts (byte == 34) (byte == 92) special in
@@ -53,11 +56,13 @@ kept : {X : Type 0} (test : Bool) (others : Option X) (x : X) → cond test None
 kept true others x e = cc
 kept false others x e = (refl, e)
 
-either : {X : Type 0} (test : Bool) (one other : Option X) (x : X) → cond test one other ≡ Some x → ((test ≡ true) × (one ≡ Some x)) ⊎ ((test ≡ false) × (other ≡ Some x))
+either : {X : Type 0} (test : Bool) (one other : Option X) (x : X) → cond test one other ≡ Some x
+    → ((test ≡ true) × (one ≡ Some x)) ⊎ ((test ≡ false) × (other ≡ Some x))
 either true one other x e = inl (refl, e)
 either false one other x e = inr (refl, e)
 
-mapped : (byte : ℕ) (rest : Option (List ℕ)) (label : List ℕ) → option_map (λ label. byte ∷ label) rest ≡ Some label → (others : List ℕ) × (rest ≡ Some others) × (label ≡ byte ∷ others)
+mapped : (byte : ℕ) (rest : Option (List ℕ)) (label : List ℕ) → option_map (λ label. byte ∷ label) rest ≡ Some label
+    → (others : List ℕ) × (rest ≡ Some others) × (label ≡ byte ∷ others)
 mapped byte None label e = cc
 mapped byte (Some others) label e = (others, refl, cc)
 
@@ -67,26 +72,39 @@ with_backslash true bytes = 92 ∷ bytes
 with_backslash false bytes = bytes
 
 -- the label that is read stands so, escaped
-pub unescaped-sound : (bytes : List ℕ) (backslash : Bool) (label : List ℕ) → unescaped_behind backslash bytes ≡ Some label → (with_backslash backslash bytes ≡ escaped label) × (has_line_feed label ≡ false)
+pub unescaped-sound : (bytes : List ℕ) (backslash : Bool) (label : List ℕ) → unescaped_behind backslash bytes ≡ Some label
+    → (with_backslash backslash bytes ≡ escaped label) × (has_line_feed label ≡ false)
 unescaped-sound [] true label e = cc
 unescaped-sound [] false label e = let same : [] ≡ label = cc in (ap escaped same, ap has_line_feed (sym same))
 unescaped-sound (byte ∷ bytes) true label e =
     let fits = kept (not (is_escaped byte)) (option_map (λ label. byte ∷ label) (unescaped_behind false bytes)) label e in
     let rest = mapped byte (unescaped_behind false bytes) label fits.1 in
     let later = unescaped-sound bytes false rest.0 rest.1 in
-    let special : is_escaped byte ≡ true = elim (cases_Bool (is_escaped byte)) [ inl here ↦ here | inr none ↦ let h : not (is_escaped byte) ≡ true = ap not none in cc ] in
-    let other : (byte == 10) ≡ false = special-no_line_feed byte special in
-    (ap (λ bytes. 92 ∷ byte ∷ bytes) later.0 ∙ sym (escaped-special byte rest.0 special) ∙ ap escaped (sym rest.2), ap has_line_feed rest.2 ∙ or_from (byte == 10) (has_line_feed rest.0) other later.1)
+    let special : is_escaped byte ≡ true = elim
+    (cases_Bool (is_escaped byte)) [ inl here ↦ here | inr none ↦ let h : not (is_escaped byte) ≡ true = ap not none in cc ] in
+    let other : (byte == 10) ≡ false = special-no_line_feed byte special in (
+      ap (λ bytes. 92 ∷ byte ∷ bytes) later.0 ∙ sym (escaped-special byte rest.0 special) ∙ ap escaped (sym rest.2),
+      ap has_line_feed rest.2
+          ∙ or_from (byte == 10) (has_line_feed rest.0) other later.1,
+    )
 unescaped-sound (byte ∷ bytes) false label e =
-    let fits = kept ((byte == 34) || (byte == 10)) (cond (byte == 92) (unescaped_behind true bytes) (option_map (λ label. byte ∷ label) (unescaped_behind false bytes))) label e in
+    let fits = kept ((byte == 34) || (byte == 10))
+    (cond (byte == 92) (unescaped_behind true bytes) (option_map (λ label. byte ∷ label) (unescaped_behind false bytes))) label e in
     let plain = or_parts (byte == 34) (byte == 10) fits.0 in
     elim (either (byte == 92) (unescaped_behind true bytes) (option_map (λ label. byte ∷ label) (unescaped_behind false bytes)) label fits.1) [
-      | inl backslash ↦ let later = unescaped-sound bytes true label backslash.1 in (ap (λ byte. byte ∷ bytes) (eqb-true byte 92 backslash.0) ∙ later.0, later.1)
+      | inl backslash ↦ let later = unescaped-sound bytes true label backslash.1 in (
+        ap (λ byte. byte ∷ bytes) (eqb-true byte 92 backslash.0)
+            ∙ later.0,
+        later.1,
+      )
       | inr other ↦
           let rest = mapped byte (unescaped_behind false bytes) label other.1 in
           let later = unescaped-sound bytes false rest.0 rest.1 in
-          let special : is_escaped byte ≡ false = or_from (byte == 34) (byte == 92) plain.0 other.0 in
-          (ap (λ bytes. byte ∷ bytes) later.0 ∙ sym (escaped-plain byte rest.0 special) ∙ ap escaped (sym rest.2), ap has_line_feed rest.2 ∙ or_from (byte == 10) (has_line_feed rest.0) plain.1 later.1)
+          let special : is_escaped byte ≡ false = or_from (byte == 34) (byte == 92) plain.0 other.0 in (
+            ap (λ bytes. byte ∷ bytes) later.0 ∙ sym (escaped-plain byte rest.0 special) ∙ ap escaped (sym rest.2),
+            ap has_line_feed rest.2
+                ∙ or_from (byte == 10) (has_line_feed rest.0) plain.1 later.1,
+          )
     ]
 
 -- without its escapes a label is UTF-8 still
@@ -97,13 +115,17 @@ utf8-escaped (byte ∷ label) front utf8 = by (is_escaped byte) refl (utf8-escap
     one : (bytes : List ℕ) → (front ++ byte ∷ []) ++ bytes ≡ front ++ byte ∷ bytes
     one bytes = append_assoc front (byte ∷ []) bytes
 
-    by : (special : Bool) → is_escaped byte ≡ special → (IsUtf8 ((front ++ byte ∷ []) ++ escaped label) → IsUtf8 ((front ++ byte ∷ []) ++ label)) → IsUtf8 (front ++ byte ∷ label)
+    by : (special : Bool) → is_escaped byte ≡ special → (IsUtf8 ((front ++ byte ∷ []) ++ escaped label) → IsUtf8 ((front ++ byte ∷ []) ++ label))
+        → IsUtf8 (front ++ byte ∷ label)
     by true special later =
-        let begun : IsUtf8 (front ++ 92 ∷ byte ∷ escaped label) = subst (λ b. IsUtf8 (front ++ cond b (92 ∷ byte ∷ escaped label) (byte ∷ escaped label))) special utf8 in
-        let whole : IsUtf8 (front ++ byte ∷ escaped label) = IsUtf8-append front (byte ∷ escaped label) (utf8_before front 92 (byte ∷ escaped label) (omega arith) begun) (utf8_behind front 92 (byte ∷ escaped label) (omega arith) begun) in
+        let begun : IsUtf8 (front ++ 92 ∷ byte ∷ escaped label) = subst
+        (λ b. IsUtf8 (front ++ cond b (92 ∷ byte ∷ escaped label) (byte ∷ escaped label))) special utf8 in
+        let whole : IsUtf8 (front ++ byte ∷ escaped label) = IsUtf8-append front (byte ∷ escaped label)
+        (utf8_before front 92 (byte ∷ escaped label) (omega arith) begun) (utf8_behind front 92 (byte ∷ escaped label) (omega arith) begun) in
         subst IsUtf8 (one label) (later (subst IsUtf8 (sym (one (escaped label))) whole))
     by false special later =
-        let whole : IsUtf8 (front ++ byte ∷ escaped label) = subst (λ b. IsUtf8 (front ++ cond b (92 ∷ byte ∷ escaped label) (byte ∷ escaped label))) special utf8 in
+        let whole : IsUtf8 (front ++ byte ∷ escaped label) = subst
+        (λ b. IsUtf8 (front ++ cond b (92 ∷ byte ∷ escaped label) (byte ∷ escaped label))) special utf8 in
         subst IsUtf8 (one label) (later (subst IsUtf8 (sym (one (escaped label))) whole))
 
 -- what is read is the one label that stands so, if it is short; where nothing is read there is none
@@ -133,7 +155,8 @@ pub utf8-quoted : (inside label : List ℕ) → IsQuoted inside label → IsUtf8
 utf8-quoted inside label is utf8 = utf8-escaped label [] (subst IsUtf8 is.whole utf8)
 
 -- the bytes of a label that stands so in UTF-8 are taken as a text
-pub told-IsQuoted : {E : Type 0} (inside : List ℕ) (label : Vec ℕ Global) (result : Result (String Global) E) → IfOk result (λ text. string_vec text ≡ label) → (IsUtf8 label.items → IsOk result) → IsUtf8 inside
+pub told-IsQuoted : {E : Type 0} (inside : List ℕ) (label : Vec ℕ Global) (result : Result (String Global) E)
+    → IfOk result (λ text. string_vec text ≡ label) → (IsUtf8 label.items → IsOk result) → IsUtf8 inside
     → IsQuoted inside label.items → MatchOption (result_ok result) ((other : List ℕ) → ¬ IsQuoted inside other) (λ text. IsQuoted inside (string_bytes text))
 told-IsQuoted inside label (Ok text) same succeeds utf8 is = subst (λ vec. IsQuoted inside vec.items) (sym same) is
 told-IsQuoted inside label (Err e) same succeeds utf8 is = absurd (true≢false (sym (succeeds (utf8-quoted inside label.items is utf8))))

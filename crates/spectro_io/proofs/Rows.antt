@@ -10,7 +10,8 @@ module _ {X : Type 0} (text_of : X → List ℕ) (front : List ℕ) (row : List 
   row-more = flat_map_more text_of front (take place row) (get_or row place d) ∙ ap (λ row. front ++ flat_map text_of row) (sym (take_more row place d within))
 
   -- the texts up to a place, that of the place, and those behind it
-  pub row-stopped : front ++ flat_map text_of row ≡ ((front ++ flat_map text_of (take place row)) ++ text_of (get_or row place d)) ++ flat_map text_of (drop (place + 1) row)
+  pub row-stopped : front ++ flat_map text_of row ≡ ((front ++ flat_map text_of (take place row)) ++ text_of (get_or row place d)) ++ flat_map text_of
+      (drop (place + 1) row)
   row-stopped =
       let whole : flat_map text_of row ≡ flat_map text_of (take (place + 1) row) ++ flat_map text_of (drop (place + 1) row) =
       ap (flat_map text_of) (sym (take-append-drop (place + 1) row)) ∙ flat_map-append text_of (take (place + 1) row) (drop (place + 1) row) in

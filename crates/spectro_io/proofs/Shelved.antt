@@ -25,10 +25,13 @@ left_of-more entries None at count = sym (drop-nil count)
 left_of-more entries (Some place) at count = sym (drop-drop count at (text_at entries place))
 
 -- the text under a name is that of the entry which is found under it
-pub text_of-named : (entries : List Entry) (name : List ℕ) → text_of (named entries) name ≡ option_map (λ text. text.items) (lookup (λ key. bytes_eq name (string_bytes key)) entries)
+pub text_of-named : (entries : List Entry) (name : List ℕ)
+    → text_of (named entries) name ≡ option_map (λ text. text.items) (lookup (λ key. bytes_eq name (string_bytes key)) entries)
 text_of-named [] name = refl
 text_of-named (entry ∷ entries) name =
-    elim (bytes_eq name (string_bytes entry.0)) as (λ found. cond found (Some entry.1.items) (text_of (named entries) name) ≡ option_map (λ text. text.items) (cond found (Some entry.1) (lookup (λ key. bytes_eq name (string_bytes key)) entries))) [
+    elim (bytes_eq name (string_bytes entry.0)) as
+    (λ found. cond found (Some entry.1.items) (text_of (named entries) name) ≡ option_map (λ text. text.items)
+    (cond found (Some entry.1) (lookup (λ key. bytes_eq name (string_bytes key)) entries))) [
       | true ↦ refl
       | false ↦ text_of-named entries name
     ]
@@ -42,7 +45,8 @@ same_name name one other differ first second =
     cc
 
 -- two tests of a name that do not both pass can be made in any order
-exchanged : {X : Type 0} (first second : Bool) (x y z : X) → (first ≡ true → second ≡ true → ⊥) → cond first x (cond second y z) ≡ cond second y (cond first x z)
+exchanged : {X : Type 0} (first second : Bool) (x y z : X) → (first ≡ true → second ≡ true → ⊥)
+    → cond first x (cond second y z) ≡ cond second y (cond first x z)
 exchanged true true x y z apart = absurd (apart refl refl)
 exchanged true false x y z apart = refl
 exchanged false true x y z apart = refl
@@ -54,36 +58,44 @@ repeated true x y z = refl
 repeated false x y z = refl
 
 -- the text under a name, of an entry that keeps its name and of those after it
-inserted : (entry : Entry) (entries rest : List Entry) (key : String Global) (text : Vec ℕ Global) (name : List ℕ) (same : Bool) → bytes_eq (string_bytes key) (string_bytes entry.0) ≡ same
+inserted : (entry : Entry) (entries rest : List Entry) (key : String Global) (text : Vec ℕ Global) (name : List ℕ) (same : Bool)
+    → bytes_eq (string_bytes key) (string_bytes entry.0) ≡ same
     → text_of (named rest) name ≡ cond (bytes_eq name (string_bytes key)) (Some text.items) (text_of (named entries) name)
-    → text_of (named (cond same ((entry.0, text) ∷ entries) (entry ∷ rest))) name ≡ cond (bytes_eq name (string_bytes key)) (Some text.items) (text_of (named (entry ∷ entries)) name)
+    → text_of (named (cond same ((entry.0, text) ∷ entries) (entry ∷ rest))) name ≡ cond (bytes_eq name (string_bytes key)) (Some text.items)
+    (text_of (named (entry ∷ entries)) name)
 inserted entry entries rest key text name true same below =
     let bytes : string_bytes key ≡ string_bytes entry.0 = (bytes_eq-Decides (string_bytes key) (string_bytes entry.0)).0 same in
     rw bytes (repeated (bytes_eq name (string_bytes entry.0)) (Some text.items) (Some entry.1.items) (text_of (named entries) name))
 inserted entry entries rest key text name false differ below =
-    rw below (exchanged (bytes_eq name (string_bytes entry.0)) (bytes_eq name (string_bytes key)) (Some entry.1.items) (Some text.items) (text_of (named entries) name) (λ first second. same_name name (string_bytes key) (string_bytes entry.0) differ second first))
+    rw below (exchanged (bytes_eq name (string_bytes entry.0)) (bytes_eq name (string_bytes key)) (Some entry.1.items) (Some text.items)
+    (text_of (named entries) name) (λ first second. same_name name (string_bytes key) (string_bytes entry.0) differ second first))
 
 -- after an insertion the name holds the new text, and each other name what it held
 pub text_of-inserted : (entries : List Entry) (key : String Global) (text : Vec ℕ Global) (name : List ℕ)
     → text_of (named (insert_entry string_eq entries key text)) name ≡ cond (bytes_eq name (string_bytes key)) (Some text.items) (text_of (named entries) name)
 text_of-inserted [] key text name = refl
 text_of-inserted (entry ∷ entries) key text name =
-    inserted entry entries (insert_entry string_eq entries key text) key text name (bytes_eq (string_bytes key) (string_bytes entry.0)) refl (text_of-inserted entries key text name)
+    inserted entry entries (insert_entry string_eq entries key text) key text name (bytes_eq (string_bytes key) (string_bytes entry.0)) refl
+    (text_of-inserted entries key text name)
 
-pub held-inserted : (entries after : List Entry) (key : String Global) (text : Vec ℕ Global) (name bytes : List ℕ) → after ≡ insert_entry string_eq entries key text → string_bytes key ≡ name → text.items ≡ bytes
+pub held-inserted : (entries after : List Entry) (key : String Global) (text : Vec ℕ Global) (name bytes : List ℕ)
+    → after ≡ insert_entry string_eq entries key text → string_bytes key ≡ name → text.items ≡ bytes
     → text_of (named after) name ≡ Some bytes
 held-inserted entries after key text name bytes is named_so holds =
     let found : bytes_eq name (string_bytes key) ≡ true = (bytes_eq-Decides name (string_bytes key)).1 (sym named_so) in
     rw (is, text_of-inserted entries key text name, found) (ap Some holds)
 
-pub others-inserted : (entries after : List Entry) (key : String Global) (text : Vec ℕ Global) (name other : List ℕ) → after ≡ insert_entry string_eq entries key text → string_bytes key ≡ name → other ≢ name
+pub others-inserted : (entries after : List Entry) (key : String Global) (text : Vec ℕ Global) (name other : List ℕ)
+    → after ≡ insert_entry string_eq entries key text → string_bytes key ≡ name → other ≢ name
     → text_of (named after) other ≡ text_of (named entries) other
 others-inserted entries after key text name other is named_so differ =
-    let passed : bytes_eq other (string_bytes key) ≡ false = false_from_ne_true _ (λ same. differ ((bytes_eq-Decides other (string_bytes key)).0 same ∙ named_so)) in
+    let passed : bytes_eq other (string_bytes key) ≡ false = false_from_ne_true _
+    (λ same. differ ((bytes_eq-Decides other (string_bytes key)).0 same ∙ named_so)) in
     rw (is, text_of-inserted entries key text other, passed) refl
 
 -- a name is found exactly where it holds a text
-pub found-named : (entries : List Entry) (name : List ℕ) → is_some (text_of (named entries) name) ≡ is_some (lookup (λ key. bytes_eq name (string_bytes key)) entries)
+pub found-named : (entries : List Entry) (name : List ℕ)
+    → is_some (text_of (named entries) name) ≡ is_some (lookup (λ key. bytes_eq name (string_bytes key)) entries)
 found-named entries name = rw (text_of-named entries name) (some_mapped (lookup (λ key. bytes_eq name (string_bytes key)) entries))
   where
     some_mapped : (text : Option (Vec ℕ Global)) → is_some (option_map (λ text. text.items) text) ≡ is_some text
@@ -97,7 +109,8 @@ at_place held None is some = cc
 at_place held (Some entry) is some = (entry.1.items, is, refl)
 
 -- opening leaves the text that the name holds, and nothing where it holds none
-pub opened-named : (entries : List Entry) (name : List ℕ) (place : Option ℕ) → is_some place ≡ is_some (lookup (λ key. bytes_eq name (string_bytes key)) entries)
+pub opened-named : (entries : List Entry) (name : List ℕ) (place : Option ℕ)
+    → is_some place ≡ is_some (lookup (λ key. bytes_eq name (string_bytes key)) entries)
     → IfSome place (λ i. slice_get (values_of entries) i ≡ lookup (λ key. bytes_eq name (string_bytes key)) entries)
     → Opens (Some (text_of (named entries))) name (is_some place) (Some (left_of entries place 0))
 opened-named entries name None found value = (text_of-named entries name ∙ none_mapped _ (sym found), refl)
@@ -106,8 +119,10 @@ opened-named entries name None found value = (text_of-named entries name ∙ non
     none_mapped None none = refl
     none_mapped (Some text) none = cc
 opened-named entries name (Some place) found value =
-    let at : option_map (λ entry. entry.1) (slice_get entries place) ≡ lookup (λ key. bytes_eq name (string_bytes key)) entries = sym (slice_get-map (λ entry. entry.1) entries place) ∙ value in
-    let held = at_place (text_of (named entries) name) (slice_get entries place) (text_of-named entries name ∙ ap (option_map (λ text. text.items)) (sym at)) (some_at (slice_get entries place) (ap is_some at ∙ sym found)) in
+    let at : option_map (λ entry. entry.1) (slice_get entries place) ≡ lookup (λ key. bytes_eq name (string_bytes key)) entries = sym
+    (slice_get-map (λ entry. entry.1) entries place) ∙ value in
+    let held = at_place (text_of (named entries) name) (slice_get entries place) (text_of-named entries name
+    ∙ ap (option_map (λ text. text.items)) (sym at)) (some_at (slice_get entries place) (ap is_some at ∙ sym found)) in
     (held.0, held.1, ap Some held.2)
   where
     some_at : (entry : Option Entry) → is_some (option_map (λ entry. entry.1) entry) ≡ true → is_some entry ≡ true

@@ -27,7 +27,12 @@ no_token (byte ∷ line) = by_case (cases_Bool (is_blank byte)) (no_token line)
 
 -- a token ends where its first blank stands
 pub length-first_token : (line : List ℕ) → length (first_token line) ≡ position_or_len is_blank (skip_blanks line)
-length-first_token line = omega (arith, length-take (position_or_len is_blank (skip_blanks line)) (skip_blanks line), prefix_len-le-length (λ byte. not (is_blank byte)) (skip_blanks line))
+length-first_token line = omega (
+  arith,
+  length-take (position_or_len is_blank (skip_blanks line)) (skip_blanks line),
+  prefix_len-le-length (λ byte. not (is_blank byte))
+      (skip_blanks line),
+)
 
 -- bytes are those before the first blank, and those from it on
 record IsParted (bytes : List ℕ) : Type 0 where
@@ -43,7 +48,8 @@ parts_at_blank (byte ∷ bytes) = by (is_blank byte) refl (parts_at_blank bytes)
         let none : before_first is_blank (byte ∷ bytes) ≡ [] = rw (take_while-cons (λ byte. not (is_blank byte)) byte bytes, e) refl in
         record { whole = rw none refl; apart = rw none e }
     by false e later =
-        let more : before_first is_blank (byte ∷ bytes) ≡ byte ∷ before_first is_blank bytes = rw (take_while-cons (λ byte. not (is_blank byte)) byte bytes, e) refl in
+        let more : before_first is_blank (byte ∷ bytes) ≡ byte ∷ before_first is_blank bytes = rw
+        (take_while-cons (λ byte. not (is_blank byte)) byte bytes, e) refl in
         record { whole = rw more (ap (λ l. byte ∷ l) later.whole); apart = rw more later.apart }
 
 -- each text is blanks, its first token, and nothing or a blank and what follows
@@ -93,10 +99,12 @@ module _ (text front word rest : List ℕ) (whole : text ≡ front ++ word ++ re
 
   -- the word is the first token, where nothing or a blank stands behind it
   pub first_token-word : IsApart rest → first_token text ≡ word
-  first_token-word apart = ap (before_first is_blank) from_word ∙ before-append is_blank word rest is.no_blank ∙ ap (λ l. word ++ l) (before-apart rest apart) ∙ append-nil word
+  first_token-word apart = ap (before_first is_blank) from_word ∙ before-append is_blank word rest is.no_blank
+      ∙ ap (λ l. word ++ l) (before-apart rest apart) ∙ append-nil word
 
   pub after_token-word : IsApart rest → after_token text ≡ rest
-  after_token-word apart = ap (λ l. drop (length l) (skip_blanks text)) (first_token-word apart) ∙ ap (drop (length word)) from_word ∙ drop-append_seam word rest
+  after_token-word apart = ap (λ l. drop (length l) (skip_blanks text)) (first_token-word apart) ∙ ap (drop (length word)) from_word
+      ∙ drop-append_seam word rest
 
 -- ---- numbers
 pub digit-no_blank : (byte : ℕ) → is_ascii_digit byte ≡ true → is_blank byte ≡ false

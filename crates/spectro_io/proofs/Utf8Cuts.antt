@@ -17,18 +17,23 @@ module _ (front : List ℕ) (byte : ℕ) (back : List ℕ) (small : byte < 128) 
 
   pub utf8_before : IsUtf8 front
   utf8_before =
-      let boundary : IsCharBoundary (front ++ byte ∷ back) (length front) = IsCharBoundary-before_ascii (front ++ byte ∷ back) (length front) (omega (arith, length-append front (byte ∷ back))) (omega (arith, here, small)) in
+      let boundary : IsCharBoundary (front ++ byte ∷ back) (length front) = IsCharBoundary-before_ascii (front ++ byte ∷ back) (length front)
+      (omega (arith, length-append front (byte ∷ back))) (omega (arith, here, small)) in
       subst IsUtf8 (take-append_seam front (byte ∷ back)) (IsUtf8-take (front ++ byte ∷ back) (length front) utf8 boundary)
 
   pub utf8_behind : IsUtf8 back
   utf8_behind =
-      let boundary : IsCharBoundary (front ++ byte ∷ back) (length front + 1) = IsCharBoundary-after_ascii (front ++ byte ∷ back) (length front) utf8 (omega (arith, length-append front (byte ∷ back))) (omega (arith, here, small)) in
-      let cut : drop (length front + 1) (front ++ byte ∷ back) ≡ back = ap (λ n. drop n (front ++ byte ∷ back)) (omega (arith, length-append front (byte ∷ []))) ∙ ap (drop (length (front ++ byte ∷ []))) (sym (append_assoc front (byte ∷ []) back)) ∙ drop-append_seam (front ++ byte ∷ []) back in
+      let boundary : IsCharBoundary (front ++ byte ∷ back) (length front + 1) = IsCharBoundary-after_ascii (front ++ byte ∷ back) (length front) utf8
+      (omega (arith, length-append front (byte ∷ back))) (omega (arith, here, small)) in
+      let cut : drop (length front + 1) (front ++ byte ∷ back) ≡ back = ap (λ n. drop n (front ++ byte ∷ back))
+      (omega (arith, length-append front (byte ∷ []))) ∙ ap (drop (length (front ++ byte ∷ []))) (sym (append_assoc front (byte ∷ []) back))
+      ∙ drop-append_seam (front ++ byte ∷ []) back in
       subst IsUtf8 cut (IsUtf8-drop (front ++ byte ∷ back) (length front + 1) utf8 boundary)
 
 -- blanks
 blank-small : (byte : ℕ) → is_blank byte ≡ true → byte < 128
-blank-small byte blank = elim (or_cases (byte == 32) (byte == 9) blank) [ inl space ↦ omega (arith, eqb-true byte 32 space) | inr tab ↦ omega (arith, eqb-true byte 9 tab) ]
+blank-small byte blank = elim
+    (or_cases (byte == 32) (byte == 9) blank) [ inl space ↦ omega (arith, eqb-true byte 32 space) | inr tab ↦ omega (arith, eqb-true byte 9 tab) ]
 
 pub utf8_behind_blanks : (blanks back : List ℕ) → AreBlanks blanks → IsUtf8 (blanks ++ back) → IsUtf8 back
 utf8_behind_blanks [] back all utf8 = utf8
@@ -37,7 +42,8 @@ utf8_behind_blanks (byte ∷ blanks) back all utf8 =
     utf8_behind_blanks blanks back parts.1 (utf8_behind [] byte (blanks ++ back) (blank-small byte parts.0) utf8)
 
 -- blanks, if any, and then a byte of ASCII
-pub utf8_before_blanks : (front blanks : List ℕ) (byte : ℕ) (back : List ℕ) → AreBlanks blanks → byte < 128 → IsUtf8 (front ++ (blanks ++ byte ∷ back)) → IsUtf8 front
+pub utf8_before_blanks : (front blanks : List ℕ) (byte : ℕ) (back : List ℕ) → AreBlanks blanks → byte < 128 → IsUtf8 (front ++ (blanks ++ byte ∷ back))
+    → IsUtf8 front
 utf8_before_blanks front [] byte back all small utf8 = utf8_before front byte back small utf8
 utf8_before_blanks front (blank ∷ blanks) byte back all small utf8 =
     utf8_before front blank (blanks ++ byte ∷ back) (blank-small blank (and_parts (is_blank blank) (list_all is_blank blanks) all).0) utf8

@@ -28,12 +28,14 @@ use Rattle.spectro_lts.proofs.TablesSlices.{part, length-part, part_at}
 use Rattle.spectro_lts.proofs.TablesNames.{IsNaming, successors_of-post, label_nos_from-named}
 
 -- names in the order of their ranks
-names_in_order : (name : ℕ → Label) (rank : ℕ → ℕ) (count : ℕ) → ((label_no other : ℕ) → label_no < count → other < count → rank label_no < rank other → is_before_text (name label_no) (name other) ≡ true)
+names_in_order : (name : ℕ → Label) (rank : ℕ → ℕ) (count : ℕ)
+    → ((label_no other : ℕ) → label_no < count → other < count → rank label_no < rank other → is_before_text (name label_no) (name other) ≡ true)
     → (label_nos : List ℕ) → ((label_no : ℕ) → Contains label_nos label_no → label_no < count) → Ascends (map rank label_nos) → AreInOrder (map name label_nos)
 names_in_order name rank count rise [] within up = tt
 names_in_order name rank count rise (label_no ∷ []) within up = (tt, tt)
 names_in_order name rank count rise (label_no ∷ other ∷ rest) within up = (
-  rise label_no other (within label_no (Contains-first label_no (other ∷ rest))) (within other (Contains-later label_no (other ∷ rest) other (Contains-first other rest))) up.0,
+  rise label_no other (within label_no (Contains-first label_no (other ∷ rest)))
+      (within other (Contains-later label_no (other ∷ rest) other (Contains-first other rest))) up.0,
   names_in_order name rank count rise (other ∷ rest) (λ k member. within k (Contains-later label_no (other ∷ rest) k member)) up.1,
 )
 
@@ -55,12 +57,15 @@ module _ (states first : ℕ) (labels : List (String Global)) (steps : List Step
 
   naming : IsNaming (label_at labels) (length labels)
   naming label_no other within other_within same =
-      one_number (map string_bytes labels) (label_at labels label_no) label_no other (subst (λ texts. IsDistinct bytes_eq texts) (sym indexed.numbered.in_order) (labels_of-distinct (steps_of labels steps)))
+      one_number (map string_bytes labels) (label_at labels label_no) label_no other
+      (subst (λ texts. IsDistinct bytes_eq texts) (sym indexed.numbered.in_order) (labels_of-distinct (steps_of labels steps)))
       (label_at-numbered labels label_no within) (label_at-numbered labels other other_within ∙ ap Some (sym same))
 
-  pub successors-post : (s label_no : ℕ) → label_no < length (labels_of (steps_of labels steps)) → successors_of steps s label_no ≡ post (system_of states first labels steps) (s ∷ []) (label_of (steps_of labels steps) label_no)
+  pub successors-post : (s label_no : ℕ) → label_no < length (labels_of (steps_of labels steps))
+      → successors_of steps s label_no ≡ post (system_of states first labels steps) (s ∷ []) (label_of (steps_of labels steps) label_no)
   successors-post s label_no within =
-      successors_of-post (label_at labels) (length labels) steps states first s label_no naming (omega (arith, within, count_of_labels)) indexed.numbered.numbers
+      successors_of-post (label_at labels) (length labels) steps states first s label_no naming
+      (omega (arith, within, count_of_labels)) indexed.numbered.numbers
       ∙ ap (post (system_of states first labels steps) (s ∷ [])) (sym (label_of-at label_no))
 
   module _ (s : ℕ) (label_nos : List ℕ) (are : AreLabelsFrom indexed.ranks steps s label_nos) where
@@ -76,10 +81,13 @@ module _ (states first : ℕ) (labels : List (String Global)) (steps : List Step
     by_name =
         let law = label_nos_from-named (label_at labels) steps s in
         labels_from_is (map (label_at labels) label_nos) (steps_of labels steps) s
-        (names_in_order (label_at labels) (λ label_no. slice_index indexed.ranks label_no) (length labels) indexed.ranked.rise label_nos in_labels (ascends-from_increasing (map (λ label_no. slice_index indexed.ranks label_no) label_nos) are.rise))
+        (names_in_order (label_at labels) (λ label_no. slice_index indexed.ranks label_no) (length labels) indexed.ranked.rise label_nos in_labels
+        (ascends-from_increasing (map (λ label_no. slice_index indexed.ranks label_no) label_nos) are.rise))
         (λ x member.
         let found = Contains-map_cases (label_at labels) label_nos x member in
-        subst (λ xs. Contains xs x) law (subst (λ y. Contains (map (label_at labels) (label_nos_from steps s)) y) found.2 (Contains-map (label_at labels) (label_nos_from steps s) found.0 (are.only found.0 found.1))))
+        subst (λ xs. Contains xs x) law
+        (subst (λ y. Contains (map (label_at labels) (label_nos_from steps s)) y) found.2
+        (Contains-map (label_at labels) (label_nos_from steps s) found.0 (are.only found.0 found.1))))
         (λ x member.
         let found = Contains-map_cases (label_at labels) (label_nos_from steps s) x (subst (λ xs. Contains xs x) (sym law) member) in
         subst (λ y. Contains (map (label_at labels) label_nos) y) found.2 (Contains-map (label_at labels) label_nos found.0 (are.listed found.0 found.1)))
@@ -110,9 +118,11 @@ module _ (states first : ℕ) (labels : List (String Global)) (steps : List Step
     label_at-row i label here =
         let texts = steps_of labels steps in
         let within : i < row_length table s = omega (arith, slice_get_within (labels_from texts s) i label here, row_length-labels) in
-        let read : slice_index row i ≡ label_no_at table s i = part_at table.labels.items (slice_index table.first.items s) (slice_index table.first.items (s + 1)) i within in
+        let read : slice_index row i ≡ label_no_at table s i = part_at table.labels.items (slice_index table.first.items s)
+        (slice_index table.first.items (s + 1)) i within in
         let in_row : i < length row = omega (arith, within, length-row) in
-        let named : slice_index_or (map (label_of texts) row) i [] ≡ label = ap (λ xs. slice_index_or xs i []) (label_nos-labels s row row_are) ∙ get_or_from_slice_get (labels_from texts s) i label [] here in (
+        let named : slice_index_or (map (label_of texts) row) i [] ≡ label = ap (λ xs. slice_index_or xs i []) (label_nos-labels s row row_are)
+        ∙ get_or_from_slice_get (labels_from texts s) i label [] here in (
           subst (λ label_no. label_no < length (labels_of texts)) read (label_nos-in_range s row row_are i 0 in_row),
           ap (label_of texts) (sym read) ∙ sym (get_or-map (label_of texts) row i 0 [] in_row) ∙ named,
         )

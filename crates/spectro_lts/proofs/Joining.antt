@@ -33,25 +33,31 @@ pub labels_of-shifted : (by : ℕ) (steps : List Step) → labels_of (map (shift
 labels_of-shifted by steps = rw (texts-shifted by steps) refl
 
 front : (steps : List Step) (k : ℕ) → length (labels_of (take k steps)) ≤ length (labels_of steps)
-front steps k = subst (λ whole. length (labels_of (take k steps)) ≤ length (labels_of whole)) (take-append-drop k steps) (length-labels_of (take k steps) (drop k steps))
+front steps k = subst (λ whole. length (labels_of (take k steps)) ≤ length (labels_of whole)) (take-append-drop k steps)
+    (length-labels_of (take k steps) (drop k steps))
 
-pub grown-few : (system : System) (by : ℕ) (steps : List Step) (k : ℕ) → length (labels_of system.steps) + length (labels_of steps) ≤ 131072 → length (labels_of (grown system by (take k steps)).steps) ≤ 131072
+pub grown-few : (system : System) (by : ℕ) (steps : List Step) (k : ℕ) → length (labels_of system.steps) + length (labels_of steps) ≤ 131072
+    → length (labels_of (grown system by (take k steps)).steps) ≤ 131072
 grown-few system by steps k few =
     omega (arith, few, length-labels_of_append system.steps (map (shifted by) (take k steps)), ap length (labels_of-shifted by (take k steps)), front steps k)
 
 -- it grows by one step more
-pub grown-more : (system : System) (by : ℕ) (steps : List Step) (k from number to : ℕ) (label : Label) → IsStepAt steps k from number to → slice_get (labels_of steps) number ≡ Some label
-    → (grown system by (take k steps)).steps ++ record { source = by + from; label = label; target = by + to } ∷ [] ≡ (grown system by (take (k + 1) steps)).steps
+pub grown-more : (system : System) (by : ℕ) (steps : List Step) (k from number to : ℕ) (label : Label) → IsStepAt steps k from number to
+    → slice_get (labels_of steps) number ≡ Some label
+    → (grown system by (take k steps)).steps ++ record { source = by + from; label = label; target = by + to } ∷ [] ≡
+    (grown system by (take (k + 1) steps)).steps
 grown-more system by steps k from number to label at named =
     let step : Step = record { source = from; label = label; target = to } in
     let same : at.label ≡ label = let found = at.numbered in cc in
     let here : slice_get steps k ≡ Some step = at.found ∙ ap (λ (label : Label). Some (record { source = from; label = label; target = to })) same in
-    let longer : take (k + 1) steps ≡ take k steps ++ step ∷ [] = take_more steps k step (slice_get_within steps k step here) ∙ ap (λ (last : Step). take k steps ++ last ∷ []) (get_or_from_slice_get steps k step step here) in
+    let longer : take (k + 1) steps ≡ take k steps ++ step ∷ [] = take_more steps k step (slice_get_within steps k step here)
+    ∙ ap (λ (last : Step). take k steps ++ last ∷ []) (get_or_from_slice_get steps k step step here) in
     append_assoc system.steps (map (shifted by) (take k steps)) (shifted by step ∷ [])
     ∙ ap (λ more. system.steps ++ more) (sym (ap (map (shifted by)) longer ∙ map-append (shifted by) (take k steps) (step ∷ [])))
 
 -- the left as it is, and the right moved up by its states, are the two side by side
-pub joined : (left right begun first second : System) (shift states initial : ℕ) → shift ≡ left.states → states ≡ right.states → initial ≡ left.initial → begun ≡ record { states = shift + states; initial = initial; steps = [] }
+pub joined : (left right begun first second : System) (shift states initial : ℕ) → shift ≡ left.states → states ≡ right.states → initial ≡ left.initial
+    → begun ≡ record { states = shift + states; initial = initial; steps = [] }
     → first ≡ grown begun 0 left.steps → second ≡ grown first shift right.steps → second ≡ join left right
 joined left right begun first second shift states initial same_shift same_states same_initial begin with_left with_right =
     with_right ∙ rw (with_left, begin, map-shifted-0 left.steps, same_shift, same_states, same_initial) refl

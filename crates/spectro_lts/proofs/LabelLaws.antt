@@ -36,7 +36,8 @@ IsDistinct-insert_key labels label distinct = by (list_any (bytes_eq label) labe
 
 IsDistinct-insert_all : (labels more : List Label) → IsDistinct bytes_eq labels → IsDistinct bytes_eq (insert_all bytes_eq labels more)
 IsDistinct-insert_all labels [] distinct = distinct
-IsDistinct-insert_all labels (label ∷ more) distinct = IsDistinct-insert_all (insert_key bytes_eq labels label) more (IsDistinct-insert_key labels label distinct)
+IsDistinct-insert_all labels (label ∷ more) distinct = IsDistinct-insert_all (insert_key bytes_eq labels label) more
+    (IsDistinct-insert_key labels label distinct)
 
 insert_key-keeps : (labels : List Label) (label other : Label) → Contains labels other → Contains (insert_key bytes_eq labels label) other
 insert_key-keeps labels label other here = by (list_any (bytes_eq label) labels) refl
@@ -53,7 +54,8 @@ insert_all-has : (labels more : List Label) (place : ℕ) (other : Label) → sl
 insert_all-has labels [] place other found = cc
 insert_all-has labels (label ∷ more) zero other found =
     let same : label ≡ other = cc in
-    insert_all-keeps (insert_key bytes_eq labels label) more other (subst (Contains (insert_key bytes_eq labels label)) same (Contains-insert_key bytes_eq same_bytes labels label))
+    insert_all-keeps (insert_key bytes_eq labels label) more other
+    (subst (Contains (insert_key bytes_eq labels label)) same (Contains-insert_key bytes_eq same_bytes labels label))
 insert_all-has labels (label ∷ more) (suc place) other found = insert_all-has (insert_key bytes_eq labels label) more place other found
 
 -- no step takes a label away
@@ -84,16 +86,20 @@ or-later : (a b c : Bool) → ((a || b) || c) ≡ (a || (b || c))
 or-later true b c = refl
 or-later false b c = refl
 
-list_any-insert_key : (labels : List Label) (label other : Label) → list_any (bytes_eq other) (insert_key bytes_eq labels label) ≡ (list_any (bytes_eq other) labels || bytes_eq other label)
+list_any-insert_key : (labels : List Label) (label other : Label)
+    → list_any (bytes_eq other) (insert_key bytes_eq labels label) ≡ (list_any (bytes_eq other) labels || bytes_eq other label)
 list_any-insert_key labels label other = by (list_any (bytes_eq label) labels) (bytes_eq other label) refl refl
   where
     by : (there same : Bool) → list_any (bytes_eq label) labels ≡ there → bytes_eq other label ≡ same
         → list_any (bytes_eq other) (insert_key bytes_eq labels label) ≡ (list_any (bytes_eq other) labels || bytes_eq other label)
-    by true true there same = let here : list_any (bytes_eq other) labels ≡ true = list_any_congr nat_list_eq_equiv other label labels same ∙ there in rw (there, same, here) refl
+    by true true there same = let here : list_any (bytes_eq other) labels ≡ true = list_any_congr nat_list_eq_equiv other label labels same
+        ∙ there in rw (there, same, here) refl
     by true false there same = rw (there, same) (or-false (list_any (bytes_eq other) labels))
-    by false same new e = rw new (list_any-append (bytes_eq other) labels (label ∷ []) ∙ ap (λ b. list_any (bytes_eq other) labels || b) (sym (or-false (bytes_eq other label))))
+    by false same new e = rw new (list_any-append (bytes_eq other) labels (label ∷ [])
+        ∙ ap (λ b. list_any (bytes_eq other) labels || b) (sym (or-false (bytes_eq other label))))
 
-list_any-insert_all : (labels more : List Label) (other : Label) → list_any (bytes_eq other) (insert_all bytes_eq labels more) ≡ (list_any (bytes_eq other) labels || list_any (bytes_eq other) more)
+list_any-insert_all : (labels more : List Label) (other : Label)
+    → list_any (bytes_eq other) (insert_all bytes_eq labels more) ≡ (list_any (bytes_eq other) labels || list_any (bytes_eq other) more)
 list_any-insert_all labels [] other = or-false (list_any (bytes_eq other) labels)
 list_any-insert_all labels (label ∷ more) other =
     list_any-insert_all (insert_key bytes_eq labels label) more other
@@ -106,27 +112,33 @@ or-mono true b c more e = rw (more refl) refl
 or-mono false true c more e = refl
 or-mono false false c more e = e
 
-length-insert_key_apart : (n : ℕ) (some all : List Label) (label : Label) → ((other : Label) → list_any (bytes_eq other) some ≡ true → list_any (bytes_eq other) all ≡ true) → length all ≤ n + length some
+length-insert_key_apart : (n : ℕ) (some all : List Label) (label : Label)
+    → ((other : Label) → list_any (bytes_eq other) some ≡ true → list_any (bytes_eq other) all ≡ true) → length all ≤ n + length some
     → length (insert_key bytes_eq all label) ≤ n + length (insert_key bytes_eq some label)
 length-insert_key_apart n some all label more few = by (list_any (bytes_eq label) all) (list_any (bytes_eq label) some) refl refl
   where
-    by : (there here : Bool) → list_any (bytes_eq label) all ≡ there → list_any (bytes_eq label) some ≡ here → length (insert_key bytes_eq all label) ≤ n + length (insert_key bytes_eq some label)
+    by : (there here : Bool) → list_any (bytes_eq label) all ≡ there → list_any (bytes_eq label) some ≡ here
+        → length (insert_key bytes_eq all label) ≤ n + length (insert_key bytes_eq some label)
     by true here there e = rw there (omega (arith, few, length-insert_key some label))
     by false true there e = let both = more label e in cc
     by false false there e = rw (there, e) (omega (arith, few, length-append all (label ∷ []), length-append some (label ∷ [])))
 
-length-insert_all_apart : (n : ℕ) (some all more : List Label) → ((other : Label) → list_any (bytes_eq other) some ≡ true → list_any (bytes_eq other) all ≡ true) → length all ≤ n + length some
+length-insert_all_apart : (n : ℕ) (some all more : List Label)
+    → ((other : Label) → list_any (bytes_eq other) some ≡ true → list_any (bytes_eq other) all ≡ true) → length all ≤ n + length some
     → length (fold (insert_key bytes_eq) all more) ≤ n + length (insert_all bytes_eq some more)
 length-insert_all_apart n some all [] has few = few
 length-insert_all_apart n some all (label ∷ more) has few =
     length-insert_all_apart n (insert_key bytes_eq some label) (insert_key bytes_eq all label) more
-    (λ other e. list_any-insert_key all label other ∙ or-mono (list_any (bytes_eq other) some) (list_any (bytes_eq other) all) (bytes_eq other label) (has other) (sym (list_any-insert_key some label other) ∙ e))
+    (λ other e. list_any-insert_key all label other
+    ∙ or-mono (list_any (bytes_eq other) some) (list_any (bytes_eq other) all) (bytes_eq other label) (has other)
+    (sym (list_any-insert_key some label other) ∙ e))
     (length-insert_key_apart n some all label has few)
 
 -- ---- labels of steps
 labels_of-append : (steps more : List Step) → labels_of (steps ++ more) ≡ fold (insert_key bytes_eq) (labels_of steps) (map (λ step. step.label) more)
 labels_of-append steps more =
-    ap (fold (insert_key bytes_eq) []) (map-append (λ step. step.label) steps more) ∙ fold-append (insert_key bytes_eq) [] (map (λ step. step.label) steps) (map (λ step. step.label) more)
+    ap (fold (insert_key bytes_eq) []) (map-append (λ step. step.label) steps more)
+    ∙ fold-append (insert_key bytes_eq) [] (map (λ step. step.label) steps) (map (λ step. step.label) more)
 
 pub labels_of-push : (steps : List Step) (step : Step) → labels_of (steps ++ step ∷ []) ≡ insert_key bytes_eq (labels_of steps) step.label
 labels_of-push steps step = labels_of-append steps (step ∷ [])
@@ -140,7 +152,8 @@ length-labels_of_push steps step = rw (labels_of-push steps step) (length-insert
 
 pub length-labels_of_append : (steps more : List Step) → length (labels_of (steps ++ more)) ≤ length (labels_of steps) + length (labels_of more)
 length-labels_of_append steps more =
-    rw (labels_of-append steps more) (length-insert_all_apart (length (labels_of steps)) [] (labels_of steps) (map (λ step. step.label) more) (λ label e. cc) (omega arith))
+    rw (labels_of-append steps more)
+    (length-insert_all_apart (length (labels_of steps)) [] (labels_of steps) (map (λ step. step.label) more) (λ label e. cc) (omega arith))
 
 pub list_any-map : {X Y : Type 0} (p : Y → Bool) (f : X → Y) (xs : List X) → list_any p (map f xs) ≡ list_any (λ x. p (f x)) xs
 list_any-map p f [] = refl
@@ -159,28 +172,34 @@ none_passes : (labels : List Label) (label : Label) → position (bytes_eq label
 none_passes labels label none (place, within, at) = by (cases_lt (position_or_len (bytes_eq label) labels) (length labels))
   where
     by : (position_or_len (bytes_eq label) labels < length labels) ⊎ (length labels ≤ position_or_len (bytes_eq label) labels) → ⊥
-    by (inl inside) = let test : nat_lt (position_or_len (bytes_eq label) labels) (length labels) ≡ true = grind (arith, common_steps) in let some = rw test at none in cc
+    by (inl inside) = let test : nat_lt (position_or_len (bytes_eq label) labels) (length labels) ≡ true = grind
+        (arith, common_steps) in let some = rw test at none in cc
     by (inr past) =
         let fails = fails_before_first (bytes_eq label) labels place label (omega arith) in
         let passes = bytes_eq-same label (get_or labels place label) (sym at) in cc
 
 -- a label with no number is that of no step
-pub no_step_has : (steps : List Step) (label : Label) (step : Step) → position (bytes_eq label) (labels_of steps) ≡ None → step.label ≡ label → ¬ Contains steps step
+pub no_step_has : (steps : List Step) (label : Label) (step : Step) → position (bytes_eq label) (labels_of steps) ≡ None → step.label ≡ label
+    → ¬ Contains steps step
 no_step_has steps label step none same here = none_passes (labels_of steps) label none (subst (Contains (labels_of steps)) same (labels_of-has steps step here))
 
 -- a label that is found stands at its number
-pub found_label : (labels : List Label) (label : Label) (label_no : ℕ) → position (bytes_eq label) labels ≡ Some label_no → slice_get labels label_no ≡ Some label
+pub found_label : (labels : List Label) (label : Label) (label_no : ℕ) → position (bytes_eq label) labels ≡ Some label_no
+    → slice_get labels label_no ≡ Some label
 found_label labels label label_no e =
     let at = position-Some (bytes_eq label) labels label_no [] e in
     slice_get-get_or labels label_no [] at.0 ∙ ap Some (sym (same_bytes label (get_or labels label_no []) at.1))
 
-apart : (labels : List Label) (label : Label) (i j : ℕ) → IsDistinct bytes_eq labels → slice_get labels i ≡ Some label → slice_get labels j ≡ Some label → i < j → ⊥
+apart : (labels : List Label) (label : Label) (i j : ℕ) → IsDistinct bytes_eq labels → slice_get labels i ≡ Some label → slice_get labels j ≡ Some label
+    → i < j → ⊥
 apart labels label i j distinct at_i at_j less =
     let differ = apart_from_distinct bytes_eq labels i j [] distinct less (slice_get_within labels j label at_j) in
-    let same = bytes_eq-same (get_or labels i []) (get_or labels j []) (get_or_from_slice_get labels i label [] at_i ∙ sym (get_or_from_slice_get labels j label [] at_j)) in
+    let same = bytes_eq-same (get_or labels i []) (get_or labels j []) (get_or_from_slice_get labels i label [] at_i
+    ∙ sym (get_or_from_slice_get labels j label [] at_j)) in
     cc
 
-pub one_number : (labels : List Label) (label : Label) (i j : ℕ) → IsDistinct bytes_eq labels → slice_get labels i ≡ Some label → slice_get labels j ≡ Some label → i ≡ j
+pub one_number : (labels : List Label) (label : Label) (i j : ℕ) → IsDistinct bytes_eq labels → slice_get labels i ≡ Some label
+    → slice_get labels j ≡ Some label → i ≡ j
 one_number labels label i j distinct at_i at_j = by (cases_lt i j) (cases_lt j i)
   where
     by : (i < j) ⊎ (j ≤ i) → (j < i) ⊎ (i ≤ j) → i ≡ j

@@ -34,13 +34,15 @@ leads s label_no step = step.from == s && step.label == label_no
 abbrev leads_by_label : ℕ → spec.Label → spec.Step → Bool
 leads_by_label s label step = list_any (λ q. q == step.source) (s ∷ []) && bytes_eq step.label label
 
-test_by_label : (name : ℕ → spec.Label) (count s label_no : ℕ) → IsNaming name count → label_no < count → (step : Step) → step.label < count → leads_by_label s (name label_no) (named name step) ≡ leads s label_no step
+test_by_label : (name : ℕ → spec.Label) (count s label_no : ℕ) → IsNaming name count → label_no < count → (step : Step) → step.label < count
+    → leads_by_label s (name label_no) (named name step) ≡ leads s label_no step
 test_by_label name count s label_no naming below step within = same_tests (leads_by_label s (name label_no) (named name step)) (leads s label_no step)
     (λ h.
     let tests = and_parts (s == step.from || false) (bytes_eq (name step.label) (name label_no)) h in
     let source : s ≡ step.from = eqb-true s step.from (or_none (s == step.from) tests.0) in
     let same : name step.label ≡ name label_no = (bytes_eq-Decides (name step.label) (name label_no)).0 tests.1 in
-    and_from (step.from == s) (step.label == label_no) (eq-eqb step.from s (sym source)) (eq-eqb step.label label_no (naming step.label label_no within below same)))
+    and_from (step.from == s) (step.label == label_no) (eq-eqb step.from s (sym source))
+    (eq-eqb step.label label_no (naming step.label label_no within below same)))
     (λ h.
     let tests = and_parts (step.from == s) (step.label == label_no) h in
     let source : step.from ≡ s = eqb-true step.from s tests.0 in
@@ -48,7 +50,8 @@ test_by_label name count s label_no naming below step within = same_tests (leads
     and_from (s == step.from || false) (bytes_eq (name step.label) (name label_no)) (or_left (s == step.from) false (eq-eqb s step.from (sym source)))
     ((bytes_eq-Decides (name step.label) (name label_no)).1 (ap name under)))
 
-targets_by_label : (name : ℕ → spec.Label) (count s label_no : ℕ) → IsNaming name count → label_no < count → (steps : List Step) → All (λ (step : Step). step.label < count) steps
+targets_by_label : (name : ℕ → spec.Label) (count s label_no : ℕ) → IsNaming name count → label_no < count → (steps : List Step)
+    → All (λ (step : Step). step.label < count) steps
     → map (λ (step : Step). step.to) (filter (leads s label_no) steps) ≡ spec.targets_of (map (named name) steps) (s ∷ []) (name label_no)
 targets_by_label name count s label_no naming below [] all = refl
 targets_by_label name count s label_no naming below (x ∷ steps) all =
@@ -59,7 +62,9 @@ targets_by_label name count s label_no naming below (x ∷ steps) all =
     go : (a b : Bool) → a ≡ b
         → map (λ (step : Step). step.to) (filter (leads s label_no) steps) ≡ spec.targets_of (map (named name) steps) (s ∷ []) (name label_no)
         → map (λ (step : Step). step.to) (cond b (x ∷ filter (leads s label_no) steps) (filter (leads s label_no) steps))
-        ≡ map (λ (step : spec.Step). step.target) (cond a (named name x ∷ filter (leads_by_label s (name label_no)) (map (named name) steps)) (filter (leads_by_label s (name label_no)) (map (named name) steps)))
+        ≡ map (λ (step : spec.Step). step.target)
+        (cond a (named name x ∷ filter (leads_by_label s (name label_no)) (map (named name) steps))
+        (filter (leads_by_label s (name label_no)) (map (named name) steps)))
     go true true same rest = λ i. x.to ∷ rest i
     go true false same rest = absurd (true≢false same)
     go false true same rest = absurd (true≢false (sym same))
@@ -81,6 +86,8 @@ label_nos_from-named name (x ∷ steps) s = go (x.from == s) (label_nos_from-nam
     go : (kept : Bool)
         → map name (label_nos_from steps s) ≡ map (λ (step : spec.Step). step.label) (filter (λ (step : spec.Step). step.source == s) (map (named name) steps))
         → map name (map (λ (step : Step). step.label) (cond kept (x ∷ filter (λ (step : Step). step.from == s) steps) (filter (λ (step : Step). step.from == s) steps)))
-        ≡ map (λ (step : spec.Step). step.label) (cond kept (named name x ∷ filter (λ (step : spec.Step). step.source == s) (map (named name) steps)) (filter (λ (step : spec.Step). step.source == s) (map (named name) steps)))
+        ≡ map (λ (step : spec.Step). step.label)
+        (cond kept (named name x ∷ filter (λ (step : spec.Step). step.source == s) (map (named name) steps))
+        (filter (λ (step : spec.Step). step.source == s) (map (named name) steps)))
     go true rest = λ i. name x.label ∷ rest i
     go false rest = rest

@@ -26,4 +26,5 @@ pub record IsRank (sorted : List Label) (text : Label) (place : ℕ) : Type 0 wh
 pub record AreRanks (labels : List (String Global)) (ranks : List ℕ) : Type 0 where
   pub long : length ranks ≡ length labels
   pub ranking : IsRanking ranks
-  pub rise : (label_no other : ℕ) → label_no < length labels → other < length labels → slice_index ranks label_no < slice_index ranks other → is_before_text (label_at labels label_no) (label_at labels other) ≡ true
+  pub rise : (label_no other : ℕ) → label_no < length labels → other < length labels → slice_index ranks label_no < slice_index ranks other
+      → is_before_text (label_at labels label_no) (label_at labels other) ≡ true

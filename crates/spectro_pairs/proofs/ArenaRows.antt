@@ -27,7 +27,8 @@ length-observed : (system : System) (x : Pair) → length (observed_labels syste
 unfolding observed_labels
 length-observed system x =
     let told = λ (label : Label). map {A = ℕ} {B = Label} (λ t. label) (post system (x.state ∷ []) label) in
-    let same = λ (label : Label). length-map (post system (x.state ∷ []) label) (λ t. label) ∙ sym (length-map {B = Pair} (post system (x.state ∷ []) label) (λ t. record { state = t; set = post system x.set label })) in
+    let same = λ (label : Label). length-map (post system (x.state ∷ []) label) (λ t. label)
+    ∙ sym (length-map {B = Pair} (post system (x.state ∷ []) label) (λ t. record { state = t; set = post system x.set label })) in
     let labels = labels_from system.steps x.state in
     length-flat_map told labels ∙ (λ i. sum_by (λ label. same label i) labels) ∙ sym (length-flat_map (observed_under system x) labels)
 
@@ -44,7 +45,8 @@ pub record IsObservedAt (system : System) (weighing : Weighing) (explored : Expl
   pub numbered : StandsAt (labels_of system.steps) (get_or labels i 0) label
   pub weighed : StandsAt explored.weights (get_or labels i 0) (weight_of weighing label)
 
-pub is_observation : (system : System) (weighing : Weighing) (explored : Explored) (k : ℕ) (row labels : List ℕ) (i weight : ℕ) → IsObservedAt system weighing explored k row labels i
+pub is_observation : (system : System) (weighing : Weighing) (explored : Explored) (k : ℕ) (row labels : List ℕ) (i weight : ℕ)
+    → IsObservedAt system weighing explored k row labels i
     → weight ≡ get_or explored.weights (get_or labels i 0) weight → IsObservation system weighing explored.pairs k i (get_or labels i 0) (get_or row i 0) weight
 is_observation system weighing explored k row labels i weight found is = record {
   from = found.from;
@@ -59,7 +61,8 @@ is_observation system weighing explored k row labels i weight found is = record 
 }
 
 -- ---- the rows of one pair
-module _ (system : System) (weighing : Weighing) (starts : List (ℕ × ℕ)) (explored : Explored) (source : IsExploredFrom system weighing starts explored) (k : ℕ) (x : Pair) (here : StandsAt explored.pairs k x) where
+module _ (system : System) (weighing : Weighing) (starts : List (ℕ × ℕ)) (explored : Explored) (source : IsExploredFrom system weighing starts explored)
+    (k : ℕ) (x : Pair) (here : StandsAt explored.pairs k x) where
   pub follower-row : (row : List ℕ) → StandsAt explored.followers k row → Name explored.pairs row (followers system x)
   follower-row row at = named-at explored.pairs explored.followers (followers system) explored.pairs k row x source.followers at here
 
@@ -70,13 +73,15 @@ module _ (system : System) (weighing : Weighing) (starts : List (ℕ × ℕ)) (e
   label-count row at = length-named (labels_of system.steps) row (observed_labels system x) (label-row row at) ∙ length-observed system x
 
   -- a follower by its place
-  follower-at : (row : List ℕ) → StandsAt explored.followers k row → (i : ℕ) (y : Pair) → StandsAt (followers system x) i y → (i < length row) × StandsAt explored.pairs (get_or row i 0) y
+  follower-at : (row : List ℕ) → StandsAt explored.followers k row → (i : ℕ) (y : Pair) → StandsAt (followers system x) i y
+      → (i < length row) × StandsAt explored.pairs (get_or row i 0) y
   follower-at row at i y follows =
       let named = follower-row row at in
       let within : i < length (followers system x) = stands-below (followers system x) i y follows in
       (omega (arith, length-named explored.pairs row (followers system x) named), named-place explored.pairs row (followers system x) i y named follows)
 
-  pub observed-at : (row labels : List ℕ) → StandsAt explored.followers k row → StandsAt explored.labels k labels → (i : ℕ) → i < length (row_at explored.labels k)
+  pub observed-at : (row labels : List ℕ) → StandsAt explored.followers k row → StandsAt explored.labels k labels → (i : ℕ)
+      → i < length (row_at explored.labels k)
       → IsObservedAt system weighing explored k row labels i
   observed-at row labels at numbered i below =
       let count = ap length (get_or_from_slice_get explored.labels k labels [] numbered) ∙ label-count labels numbered in
@@ -102,7 +107,8 @@ module _ (system : System) (weighing : Weighing) (starts : List (ℕ × ℕ)) (e
   pub set-is : set_at explored.pairs k ≡ x.set
   set-is = ap (λ o. option_map_or (λ (y : Pair). y.set) o []) here
 
-  pub subset-at : (row : List ℕ) → StandsAt explored.followers k row → (mask place : ℕ) → 1 ≤ mask → mask < 2 ^ length (set_at explored.pairs k) → place ≡ length (observed system x) + (mask - 1)
+  pub subset-at : (row : List ℕ) → StandsAt explored.followers k row → (mask place : ℕ) → 1 ≤ mask → mask < 2 ^ length (set_at explored.pairs k)
+      → place ≡ length (observed system x) + (mask - 1)
       → (place < length row) × IsSubset explored.pairs k mask (get_or row place 0)
   subset-at row at mask place some below is =
       let within : mask < 2 ^ length x.set = subst (λ s. mask < 2 ^ length s) set-is below in
@@ -115,11 +121,13 @@ module _ (system : System) (weighing : Weighing) (starts : List (ℕ × ℕ)) (e
       → (place < length row) × IsSwap explored.pairs k i (Some (get_or row place 0))
   swapped-at row at i q place member differ is =
       let found = follower-at row at place (record { state = q; set = x.state ∷ [] })
-      (subst (λ n. StandsAt (followers system x) n (record { state = q; set = x.state ∷ [] })) (sym is) (stands-swap system x _ _ (swap-at x i q member differ))) in
+      (subst (λ n. StandsAt (followers system x) n (record { state = q; set = x.state ∷ [] })) (sym is)
+      (stands-swap system x _ _ (swap-at x i q member differ))) in
       (found.0, record { from = x; q = q; here = here; member = member; own = λ e. absurd (differ e); other = λ ne. (get_or row place 0, refl, found.1) })
 
   -- the swap where the state, the set and the number of observations go by other names
-  pub swap-found : (row : List ℕ) → StandsAt explored.followers k row → (i place count state others : ℕ) (set : List ℕ) → x.state ≡ state → x.set ≡ set → i < length set → get_or set i 0 ≢ state
+  pub swap-found : (row : List ℕ) → StandsAt explored.followers k row → (i place count state others : ℕ) (set : List ℕ) → x.state ≡ state → x.set ≡ set
+      → i < length set → get_or set i 0 ≢ state
       → length set ≤ 19 → count ≡ length (observed system x) → others ≡ length (filter (λ p. not (eqb p state)) (take i set))
       → place ≡ count + (1 * 2 ^ length set) % 18446744073709551616 - 1 + others → (place < length row) × IsSwap explored.pairs k i (Some (get_or row place 0))
   swap-found row at i place count state others set same_state same_set below differ few counted others_are is =
@@ -132,17 +140,22 @@ module _ (system : System) (weighing : Weighing) (starts : List (ℕ × ℕ)) (e
       ap (λ s. length (filter (λ p. not (eqb p s)) (take i x.set))) same_state ∙ ap (λ s. length (filter (λ p. not (eqb p state)) (take i s))) same_set in
       swapped-at row at i (get_or x.set i 0) place (slice_get-get_or x.set i 0 (omega (arith, ap length same_set)))
       (λ e. differ (ap (λ s. get_or s i 0) (sym same_set) ∙ e ∙ same_state))
-      (let total : place ≡ length (observed system x) + (2 ^ length x.set - 1 + length (filter (λ p. not (eqb p x.state)) (take i x.set))) = omega arith in total)
+      (let total : place ≡ length (observed system x) +
+      (2 ^ length x.set - 1 + length (filter (λ p. not (eqb p x.state)) (take i x.set))) = omega arith in total)
 
 -- the same from what is known of the pair of the number
-pub swap-from : (system : System) (weighing : Weighing) (starts : List (ℕ × ℕ)) (explored : Explored) (k i : ℕ) (row : List ℕ) (count state others : ℕ) (set : List ℕ)
+pub swap-from : (system : System) (weighing : Weighing) (starts : List (ℕ × ℕ)) (explored : Explored) (k i : ℕ) (row : List ℕ) (count state others : ℕ)
+    (set : List ℕ)
     → IsExploredFrom system weighing starts explored → StandsAt explored.followers k row
-    → IsPairAt explored.pairs k (λ x. count ≡ length (observed system x)) → IsPairAt explored.pairs k (λ x. x.state ≡ state) → IsPairAt explored.pairs k (λ x. x.set ≡ set)
+    → IsPairAt explored.pairs k (λ x. count ≡ length (observed system x)) → IsPairAt explored.pairs k (λ x. x.state ≡ state)
+    → IsPairAt explored.pairs k (λ x. x.set ≡ set)
     → i < length (set_at explored.pairs k) → get_or set i 0 ≢ state → length set ≤ 19 → others ≡ length (filter (λ p. not (eqb p state)) (take i set))
     → (count + (1 * 2 ^ length set) % 18446744073709551616 - 1 + others < length row)
     × IsSwap explored.pairs k i (Some (get_or row (count + (1 * 2 ^ length set) % 18446744073709551616 - 1 + others) 0))
-swap-from system weighing starts explored k i row count state others set source at (x, here, counted) (y, there, state_is) (z, also, set_is) below differ few others_are =
+swap-from system weighing starts explored k i row count state others set source at (x, here, counted) (y, there, state_is)
+    (z, also, set_is) below differ few others_are =
     let same_state : x.state ≡ state = ap (λ (p : Pair). p.state) (stands-one explored.pairs k x y here there) ∙ state_is in
     let same_set : x.set ≡ set = ap (λ (p : Pair). p.set) (stands-one explored.pairs k x z here also) ∙ set_is in
-    swap-found system weighing starts explored source k x here row at i (count + (1 * 2 ^ length set) % 18446744073709551616 - 1 + others) count state others set same_state same_set
+    swap-found system weighing starts explored source k x here row at i
+    (count + (1 * 2 ^ length set) % 18446744073709551616 - 1 + others) count state others set same_state same_set
     (omega (arith, below, ap length (set-is system weighing starts explored source k x here), ap length same_set)) differ few counted others_are refl

@@ -36,7 +36,8 @@ module _ (system : System) (starts : List (ℕ × ℕ)) where
   started = reaching-begins system (start_pairs starts) (starts-once starts)
 
   -- nothing is explored yet
-  pub explored-none : (a b : Exploration) (limit : ℕ) → a.pairs ≡ record { states = system.states; limit = limit; sets = []; pairs = [] } → a.followers ≡ record { rows = []; last = [] }
+  pub explored-none : (a b : Exploration) (limit : ℕ) → a.pairs ≡ record { states = system.states; limit = limit; sets = []; pairs = [] }
+      → a.followers ≡ record { rows = []; last = [] }
       → a.labels ≡ record { rows = []; last = [] } → HasStarted a b (map start_pair starts) → ArePosts system b → AreExplored system starts b 0
   explored-none a b limit none no_followers no_labels has posts = record {
     states = has.states ∙ ap (λ (p : Interned). p.states) none;
@@ -51,7 +52,8 @@ module _ (system : System) (starts : List (ℕ × ℕ)) where
   }
 
   -- ---- one pair more
-  pub explored-more : (a b : Exploration) (k : ℕ) → AreExplored system starts a k → HasExpanded system a b k → ArePosts system b → AreExplored system starts b (k + 1)
+  pub explored-more : (a b : Exploration) (k : ℕ) → AreExplored system starts a k → HasExpanded system a b k → ArePosts system b
+      → AreExplored system starts b (k + 1)
   explored-more a b k explored has posts =
       let grown = with_all-grows is_same_pair (followers system has.x) a.pairs.pairs in
       let longer : b.pairs.pairs ≡ a.pairs.pairs ++ grown.0 = has.pairs ∙ grown.1 in
@@ -64,15 +66,18 @@ module _ (system : System) (starts : List (ℕ × ℕ)) where
         followers_closed = ap (λ (r : RowList). r.last) has.rows;
         followers =
             subst (λ (r : RowList). NameRows b.pairs.pairs r.rows (map (followers system) (take (k + 1) b.pairs.pairs))) (sym has.rows)
-            (subst (NameRows b.pairs.pairs (a.followers.rows ++ has.numbers ∷ [])) (sym (first-more (followers system) a.pairs.pairs grown.0 b.pairs.pairs k has.x has.here longer))
+            (subst (NameRows b.pairs.pairs (a.followers.rows ++ has.numbers ∷ []))
+            (sym (first-more (followers system) a.pairs.pairs grown.0 b.pairs.pairs k has.x has.here longer))
             (rows-more b.pairs.pairs a.followers.rows (map (followers system) (take k a.pairs.pairs)) has.numbers (followers system has.x)
             (subst (λ l. NameRows l a.followers.rows (map (followers system) (take k a.pairs.pairs))) (sym longer)
             (rows-grow a.pairs.pairs grown.0 a.followers.rows (map (followers system) (take k a.pairs.pairs)) explored.followers)) has.named));
         labels_closed = ap (λ (r : RowList). r.last) has.label_rows;
         labels =
             subst (λ (r : RowList). NameRows (labels_of system.steps) r.rows (map (observed_labels system) (take (k + 1) b.pairs.pairs))) (sym has.label_rows)
-            (subst (NameRows (labels_of system.steps) (a.labels.rows ++ has.label_nos ∷ [])) (sym (first-more (observed_labels system) a.pairs.pairs grown.0 b.pairs.pairs k has.x has.here longer))
-            (rows-more (labels_of system.steps) a.labels.rows (map (observed_labels system) (take k a.pairs.pairs)) has.label_nos (observed_labels system has.x) explored.labels has.labelled));
+            (subst (NameRows (labels_of system.steps) (a.labels.rows ++ has.label_nos ∷ []))
+            (sym (first-more (observed_labels system) a.pairs.pairs grown.0 b.pairs.pairs k has.x has.here longer))
+            (rows-more (labels_of system.steps) a.labels.rows (map (observed_labels system) (take k a.pairs.pairs)) has.label_nos
+            (observed_labels system has.x) explored.labels has.labelled));
       }
 
   -- no pair is let go
@@ -80,7 +85,8 @@ module _ (system : System) (starts : List (ℕ × ℕ)) where
   expanded-longer a b k has = subst (λ l. length a.pairs.pairs ≤ length l) (sym has.pairs) (length-with_all is_same_pair (followers system has.x) a.pairs.pairs)
 
   -- ---- past the limit
-  past-front : (e : ExploreError) (limit : ℕ) (front : List Pair) (k : ℕ) → AreReachedPairsTo system (start_pairs starts) front k → IsPastLimit e limit (size front)
+  past-front : (e : ExploreError) (limit : ℕ) (front : List Pair) (k : ℕ) → AreReachedPairsTo system (start_pairs starts) front k
+      → IsPastLimit e limit (size front)
       → (pairs : List Pair) → AreReachedPairs system (start_pairs starts) pairs → IsPastLimit e limit (size pairs)
   past-front e limit front k to past pairs whole =
       past-above e limit (size front) (size pairs) (fronts-begin system (start_pairs starts) front pairs k to whole).smaller past
@@ -91,7 +97,8 @@ module _ (system : System) (starts : List (ℕ × ℕ)) where
       past-front e limit (start_pairs starts) 0 started
       (subst (λ (p : Interned). IsPastLimit e p.limit (size (with_all is_same_pair p.pairs (map start_pair starts)))) none past)
 
-  pub past-followers : (e : ExploreError) (limit : ℕ) (a : Exploration) (k : ℕ) → a.pairs.limit ≡ limit → AreExplored system starts a k → IsPastFollowers e system a k
+  pub past-followers : (e : ExploreError) (limit : ℕ) (a : Exploration) (k : ℕ) → a.pairs.limit ≡ limit → AreExplored system starts a k
+      → IsPastFollowers e system a k
       → (pairs : List Pair) → AreReachedPairs system (start_pairs starts) pairs → IsPastLimit e limit (size pairs)
   past-followers e limit a k is explored (x, here, past) =
       past-front e limit (with_all is_same_pair a.pairs.pairs (followers system x)) (k + 1)
@@ -119,10 +126,12 @@ module _ (system : System) (starts : List (ℕ × ℕ)) where
         let first = stands-some (start_pairs starts) 0 (omega (arith, starts-some starts some)) in
         omega (arith, stands-below a.pairs.pairs 0 first.0 (explored.reached.begins 0 first.0 first.1))
 
-    pub explored-all : (weighing : Weighing) (weights : List ℕ) → All (IsPairWithin a.pairs.states) a.pairs.pairs → weights ≡ map (weight_of weighing) (labels_of system.steps) → IsWeighing weighing
+    pub explored-all : (weighing : Weighing) (weights : List ℕ) → All (IsPairWithin a.pairs.states) a.pairs.pairs
+        → weights ≡ map (weight_of weighing) (labels_of system.steps) → IsWeighing weighing
         → IsExploredFrom system weighing starts (record { pairs = a.pairs.pairs; followers = a.followers.rows; labels = a.labels.rows; weights = weights })
     explored-all weighing weights within weighed proper = record {
-      reached = (reaching-ends system (start_pairs starts) a.pairs.pairs).0 (subst (AreReachedPairsTo system (start_pairs starts) a.pairs.pairs) all explored.reached);
+      reached = (reaching-ends system (start_pairs starts) a.pairs.pairs).0
+          (subst (AreReachedPairsTo system (start_pairs starts) a.pairs.pairs) all explored.reached);
       within = subst (λ n. All (IsPairWithin n) a.pairs.pairs) explored.states within;
       followers = all-followers;
       labels = subst (λ l. NameRows (labels_of system.steps) a.labels.rows (map (observed_labels system) l)) whole explored.labels;

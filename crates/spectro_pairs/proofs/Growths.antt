@@ -47,7 +47,8 @@ has-none a = record {
   labels = opened-none a.labels;
 }
 
-pub has-one : (a : Exploration) (pairs : Interned) (followers : RowList) (k : ℕ) (x : Pair) → pairs ≡ record a.pairs { pairs = with_last is_same_pair a.pairs.pairs x }
+pub has-one : (a : Exploration) (pairs : Interned) (followers : RowList) (k : ℕ) (x : Pair)
+    → pairs ≡ record a.pairs { pairs = with_last is_same_pair a.pairs.pairs x }
     → StandsAt pairs.pairs k x → followers ≡ opened a.followers (k ∷ []) → HasReached a (record a { pairs = pairs; followers = followers }) (x ∷ []) []
 has-one a pairs followers k x grown here pushed = record {
   states = ap (λ (p : Interned). p.states) grown;
@@ -76,7 +77,8 @@ has-then a b c ys zs ls ms first then =
     }
 
 -- what was done, and then what was done now, is what is done
-pub has-next : (a b c : Exploration) (done now more : List Pair) (ls ms ns : List ℕ) → HasReached a b done ls → HasReached b c now ms → more ≡ done ++ now → ns ≡ ls ++ ms
+pub has-next : (a b c : Exploration) (done now more : List Pair) (ls ms ns : List ℕ) → HasReached a b done ls → HasReached b c now ms → more ≡ done ++ now
+    → ns ≡ ls ++ ms
     → HasReached a c more ns
 has-next a b c done now more ls ms ns first then pairs labels =
     subst (λ l. HasReached a c l ns) (sym pairs) (subst (HasReached a c (done ++ now)) (sym labels) (has-then a b c done now ls ms first then))
@@ -128,7 +130,8 @@ pub started-none : (a : Exploration) → HasStarted a a []
 unfolding with_all
 started-none a = record { states = refl; limit = refl; pairs = refl; followers = refl; labels = refl }
 
-pub started-numbered : (a b : Exploration) (pairs : Interned) (sets : List (List ℕ)) (ys : List Pair) → pairs ≡ record b.pairs { sets = sets } → HasStarted a b ys
+pub started-numbered : (a b : Exploration) (pairs : Interned) (sets : List (List ℕ)) (ys : List Pair) → pairs ≡ record b.pairs { sets = sets }
+    → HasStarted a b ys
     → HasStarted a (record b { pairs = pairs }) ys
 started-numbered a b pairs sets ys numbered has = record {
   states = ap (λ (p : Interned). p.states) numbered ∙ has.states;
@@ -138,7 +141,8 @@ started-numbered a b pairs sets ys numbered has = record {
   labels = has.labels;
 }
 
-pub started-one : (a b : Exploration) (pairs : Interned) (ys : List Pair) (x : Pair) → pairs ≡ record b.pairs { pairs = with_last is_same_pair b.pairs.pairs x } → HasStarted a b ys
+pub started-one : (a b : Exploration) (pairs : Interned) (ys : List Pair) (x : Pair)
+    → pairs ≡ record b.pairs { pairs = with_last is_same_pair b.pairs.pairs x } → HasStarted a b ys
     → HasStarted a (record b { pairs = pairs }) (ys ++ x ∷ [])
 started-one a b pairs ys x grown has = record {
   states = ap (λ (p : Interned). p.states) grown ∙ has.states;
@@ -159,20 +163,24 @@ past-above OutOfMemory limit m n below past = tt
 pub past-more : (e : ExploreError) (a : Exploration) (ys zs : List Pair) → IsPastWith e a ys → IsPastWith e a (ys ++ zs)
 past-more e a ys zs past =
     let grown = with_all-grows is_same_pair zs (with_all is_same_pair a.pairs.pairs ys) in
-    let longer : with_all is_same_pair a.pairs.pairs (ys ++ zs) ≡ with_all is_same_pair a.pairs.pairs ys ++ grown.0 = with_all-append is_same_pair a.pairs.pairs ys zs ∙ grown.1 in
+    let longer : with_all is_same_pair a.pairs.pairs
+    (ys ++ zs) ≡ with_all is_same_pair a.pairs.pairs ys ++ grown.0 = with_all-append is_same_pair a.pairs.pairs ys zs ∙ grown.1 in
     let larger : size (with_all is_same_pair a.pairs.pairs ys) ≤ size (with_all is_same_pair a.pairs.pairs (ys ++ zs)) =
     subst (λ l. size (with_all is_same_pair a.pairs.pairs ys) ≤ size l) (sym longer) (size-front (with_all is_same_pair a.pairs.pairs ys) grown.0) in
     past-above e a.pairs.limit (size (with_all is_same_pair a.pairs.pairs ys)) (size (with_all is_same_pair a.pairs.pairs (ys ++ zs))) larger past
 
 -- what is past it now is so after what was done
-pub past-then : (e : ExploreError) (a b : Exploration) (ys zs : List Pair) → b.pairs.limit ≡ a.pairs.limit → b.pairs.pairs ≡ with_all is_same_pair a.pairs.pairs ys
+pub past-then : (e : ExploreError) (a b : Exploration) (ys zs : List Pair) → b.pairs.limit ≡ a.pairs.limit
+    → b.pairs.pairs ≡ with_all is_same_pair a.pairs.pairs ys
     → IsPastWith e b zs → IsPastWith e a (ys ++ zs)
 past-then e a b ys zs limit pairs past =
     subst (λ n. IsPastLimit e n (size (with_all is_same_pair a.pairs.pairs (ys ++ zs)))) limit
-    (subst (λ l. IsPastLimit e b.pairs.limit (size l)) (ap (λ l. with_all is_same_pair l zs) pairs ∙ sym (with_all-append is_same_pair a.pairs.pairs ys zs)) past)
+    (subst (λ l. IsPastLimit e b.pairs.limit (size l))
+    (ap (λ l. with_all is_same_pair l zs) pairs ∙ sym (with_all-append is_same_pair a.pairs.pairs ys zs)) past)
 
 -- so it is for the whole
-pub past-whole : (e : ExploreError) (a b : Exploration) (done now rest whole : List Pair) → b.pairs.limit ≡ a.pairs.limit → b.pairs.pairs ≡ with_all is_same_pair a.pairs.pairs done
+pub past-whole : (e : ExploreError) (a b : Exploration) (done now rest whole : List Pair) → b.pairs.limit ≡ a.pairs.limit
+    → b.pairs.pairs ≡ with_all is_same_pair a.pairs.pairs done
     → IsPastWith e b now → whole ≡ (done ++ now) ++ rest → IsPastWith e a whole
 past-whole e a b done now rest whole limit pairs past is =
     subst (λ l. IsPastWith e a l) (sym is) (past-more e a (done ++ now) rest (past-then e a b done now limit pairs past))

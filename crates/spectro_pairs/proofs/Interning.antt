@@ -50,12 +50,14 @@ pub length-pairs_of : (lists : List (List ℕ)) (keys : List Key) → length (pa
 unfolding pairs_of
 length-pairs_of lists keys = length-map keys (λ (key : Key). pair_at lists key.state key.set)
 
-pub stands-pairs : (lists : List (List ℕ)) (keys : List Key) (k : ℕ) (key : Key) → StandsAt keys k key → StandsAt (pairs_of lists keys) k (pair_at lists key.state key.set)
+pub stands-pairs : (lists : List (List ℕ)) (keys : List Key) (k : ℕ) (key : Key) → StandsAt keys k key
+    → StandsAt (pairs_of lists keys) k (pair_at lists key.state key.set)
 unfolding pairs_of
 stands-pairs lists keys k key here = stands-map (λ (key : Key). pair_at lists key.state key.set) keys k key here
 
 -- a state and a set that stand at one number
-pub pair-here : (pairs : List Pair) (k state : ℕ) (set : List ℕ) → IsPairAt pairs k (λ x. x.state ≡ state) → IsPairAt pairs k (λ x. x.set ≡ set) → StandsAt pairs k (pair_of state set)
+pub pair-here : (pairs : List Pair) (k state : ℕ) (set : List ℕ) → IsPairAt pairs k (λ x. x.state ≡ state) → IsPairAt pairs k (λ x. x.set ≡ set)
+    → StandsAt pairs k (pair_of state set)
 pair-here pairs k state set (x, here, same_state) (y, also, same_set) =
     let e : y ≡ x = stands-one pairs k y x also here in
     subst (StandsAt pairs k) (λ i. record { state = same_state i; set = (sym (ap (λ (z : Pair). z.set) e) ∙ same_set) i }) here
@@ -64,18 +66,21 @@ pair-here pairs k state set (x, here, same_state) (y, also, same_set) =
 pub state-within : (states : ℕ) (pairs : List Pair) (k state : ℕ) → All (IsPairWithin states) pairs → IsPairAt pairs k (λ x. x.state ≡ state) → state < states
 state-within states pairs k state all (x, here, same) = subst (λ q. q < states) same (holds-at (IsPairWithin states) pairs k x all here).state
 
-pub set-within : (states : ℕ) (pairs : List Pair) (k : ℕ) (set : List ℕ) → All (IsPairWithin states) pairs → IsPairAt pairs k (λ x. x.set ≡ set) → IsSetWithin states set
+pub set-within : (states : ℕ) (pairs : List Pair) (k : ℕ) (set : List ℕ) → All (IsPairWithin states) pairs → IsPairAt pairs k (λ x. x.set ≡ set)
+    → IsSetWithin states set
 set-within states pairs k set all (x, here, same) = subst (IsSetWithin states) same (holds-at (IsPairWithin states) pairs k x all here).set
 
 -- ---- the sets of the numbers
 pub pair_at-set : (lists : List (List ℕ)) (state n : ℕ) (set : List ℕ) → StandsAt lists n set → pair_at lists state n ≡ record { state = state; set = set }
 unfolding pair_at
-pair_at-set lists state n set here = let e : slice_index_or lists n [] ≡ set = get_or_from_slice_get lists n set [] here in λ i. record { state = state; set = e i }
+pair_at-set lists state n set here = let e : slice_index_or lists n [] ≡ set = get_or_from_slice_get lists n set [] here in λ i. record
+    { state = state; set = e i }
 
 -- a number names the same set where there are more
 pair_at-append : (lists more : List (List ℕ)) (state n : ℕ) → n < length lists → pair_at (lists ++ more) state n ≡ pair_at lists state n
 unfolding pair_at
-pair_at-append lists more state n below = let e : slice_index_or (lists ++ more) n [] ≡ slice_index_or lists n [] = get_or-append lists more [] n below in λ i. record { state = state; set = e i }
+pair_at-append lists more state n below = let e : slice_index_or
+    (lists ++ more) n [] ≡ slice_index_or lists n [] = get_or-append lists more [] n below in λ i. record { state = state; set = e i }
 
 pairs_of-append : (lists more : List (List ℕ)) (keys : List Key) → AreNumbered (length lists) keys → pairs_of (lists ++ more) keys ≡ pairs_of lists keys
 unfolding pairs_of
@@ -86,11 +91,14 @@ pairs_of-append lists more (key ∷ keys) numbered =
     λ i. first i ∷ rest i
 
 -- one set more leaves all pairs
-pub pairs_of-with_last : (lists : List (List ℕ)) (set : List ℕ) (keys : List Key) → AreNumbered (length lists) keys → pairs_of (with_last bytes_eq lists set) keys ≡ pairs_of lists keys
+pub pairs_of-with_last : (lists : List (List ℕ)) (set : List ℕ) (keys : List Key) → AreNumbered (length lists) keys
+    → pairs_of (with_last bytes_eq lists set) keys ≡ pairs_of lists keys
 pairs_of-with_last lists set keys numbered =
-    with_last-cases bytes_eq set-equal set-itself (λ l. pairs_of l keys ≡ pairs_of lists keys) lists set (λ known. refl) (λ new. pairs_of-append lists (set ∷ []) keys numbered)
+    with_last-cases bytes_eq set-equal set-itself (λ l. pairs_of l keys ≡ pairs_of lists keys) lists set (λ known. refl)
+    (λ new. pairs_of-append lists (set ∷ []) keys numbered)
 
-pairs_of-push : (lists : List (List ℕ)) (keys : List Key) (key : Key) → pairs_of lists (keys ++ key ∷ []) ≡ pairs_of lists keys ++ pair_at lists key.state key.set ∷ []
+pairs_of-push : (lists : List (List ℕ)) (keys : List Key) (key : Key)
+    → pairs_of lists (keys ++ key ∷ []) ≡ pairs_of lists keys ++ pair_at lists key.state key.set ∷ []
 unfolding pairs_of
 pairs_of-push lists [] key = refl
 pairs_of-push lists (first ∷ keys) key = ap (λ pairs. pair_at lists first.state first.set ∷ pairs) (pairs_of-push lists keys key)
@@ -113,7 +121,8 @@ module _ (lists : List (List ℕ)) (once : StandOnce lists) where
           let here : StandsAt lists n (slice_index_or lists m []) = subst (StandsAt lists n) set (slice_get-get_or lists n [] n-below) in
           absurd (eqb-false n m e (once n m (slice_index_or lists m []) here (slice_get-get_or lists m [] m-below)))
 
-  same-pair : (x y : Key) → x.set < length lists → y.set < length lists → is_same_key x y ≡ is_same_pair (pair_at lists x.state x.set) (pair_at lists y.state y.set)
+  same-pair : (x y : Key) → x.set < length lists → y.set < length lists
+      → is_same_key x y ≡ is_same_pair (pair_at lists x.state x.set) (pair_at lists y.state y.set)
   unfolding is_same_pair pair_at
   same-pair x y x-below y-below = ap (λ b. nat_eq x.state y.state && b) (same-set x.set y.set x-below y-below)
 
@@ -150,11 +159,13 @@ module _ (lists : List (List ℕ)) (once : StandOnce lists) where
       (position-pairs key keys (stands-below lists key.set set here) numbered)
 
   -- where the pair of a key stands, the key does
-  pub key-here : (keys : List Key) (k : ℕ) (key : Key) → key.set < length lists → AreNumbered (length lists) keys → StandsAt (pairs_of lists keys) k (pair_at lists key.state key.set) → StandsAt keys k key
+  pub key-here : (keys : List Key) (k : ℕ) (key : Key) → key.set < length lists → AreNumbered (length lists) keys
+      → StandsAt (pairs_of lists keys) k (pair_at lists key.state key.set) → StandsAt keys k key
   key-here keys k key below numbered here =
       let at = stands-some keys k (omega (arith, stands-below (pairs_of lists keys) k (pair_at lists key.state key.set) here, length-pairs_of lists keys)) in
       let there = stands-pairs lists keys k at.0 at.1 in
-      let same : pair_at lists key.state key.set ≡ pair_at lists at.0.state at.0.set = stands-one (pairs_of lists keys) k (pair_at lists key.state key.set) (pair_at lists at.0.state at.0.set) here there in
+      let same : pair_at lists key.state key.set ≡ pair_at lists at.0.state at.0.set = stands-one (pairs_of lists keys) k (pair_at lists key.state key.set)
+      (pair_at lists at.0.state at.0.set) here there in
       let test : is_same_key key at.0 ≡ true =
       same-pair key at.0 below (holds-at (λ (key : Key). key.set < length lists) keys k at.0 numbered at.1)
       ∙ ap (is_same_pair (pair_at lists key.state key.set)) (sym same) ∙ same_pair-itself (pair_at lists key.state key.set) in
@@ -164,9 +175,11 @@ module _ (lists : List (List ℕ)) (once : StandOnce lists) where
   pub pairs_of-with_key : (keys : List Key) (key : Key) → key.set < length lists → AreNumbered (length lists) keys
       → pairs_of lists (with_last is_same_key keys key) ≡ with_last is_same_pair (pairs_of lists keys) (pair_at lists key.state key.set)
   unfolding with_last
-  pairs_of-with_key keys key below numbered = go (list_any (is_same_key key) keys) (list_any (is_same_pair (pair_at lists key.state key.set)) (pairs_of lists keys)) (any-pairs key keys below numbered)
+  pairs_of-with_key keys key below numbered = go (list_any (is_same_key key) keys)
+      (list_any (is_same_pair (pair_at lists key.state key.set)) (pairs_of lists keys)) (any-pairs key keys below numbered)
     where
-      go : (a b : Bool) → a ≡ b → pairs_of lists (cond a keys (keys ++ key ∷ [])) ≡ cond b (pairs_of lists keys) (pairs_of lists keys ++ pair_at lists key.state key.set ∷ [])
+      go : (a b : Bool) → a ≡ b
+          → pairs_of lists (cond a keys (keys ++ key ∷ [])) ≡ cond b (pairs_of lists keys) (pairs_of lists keys ++ pair_at lists key.state key.set ∷ [])
       go true true e = refl
       go true false e = cc
       go false true e = cc
@@ -183,21 +196,27 @@ module _ (lists : List (List ℕ)) (state : ℕ) (set : List ℕ) (none : list_a
           let here : StandsAt lists n set = subst (StandsAt lists n) (sym (set-equal set (slice_index_or lists n []) e)) (slice_get-get_or lists n [] below) in
           absurd (true≢false (sym (stands-any bytes_eq set-equal set-itself set lists n here) ∙ none))
 
-  place-no_set : (keys : List Key) → AreNumbered (length lists) keys → position_or_len (is_same_pair (record { state = state; set = set })) (pairs_of lists keys) ≡ length keys
+  place-no_set : (keys : List Key) → AreNumbered (length lists) keys
+      → position_or_len (is_same_pair (record { state = state; set = set })) (pairs_of lists keys) ≡ length keys
   unfolding pairs_of is_same_pair pair_at
   place-no_set [] numbered = refl
   place-no_set (key ∷ keys) numbered =
       let other = other-set key.set (All-head (λ (key : Key). key.set < length lists) key keys numbered) in
       let rest = place-no_set keys (All-tail (λ (key : Key). key.set < length lists) key keys numbered) in
-      let test : (nat_eq state key.state && bytes_eq set (slice_index_or lists key.set [])) ≡ false = ap (λ b. nat_eq state key.state && b) other ∙ and_false (nat_eq state key.state) in
+      let test : (nat_eq state key.state && bytes_eq set (slice_index_or lists key.set [])) ≡ false = ap (λ b. nat_eq state key.state && b) other
+      ∙ and_false (nat_eq state key.state) in
       ap (λ b. cond (not b) (1 + position_or_len (is_same_pair (record { state = state; set = set })) (pairs_of lists keys)) 0) test ∙ omega (arith, rest)
     where
       and_false : (a : Bool) → (a && false) ≡ false
       and_false true = refl
       and_false false = refl
 
-  pub position-no_set : (keys : List Key) → AreNumbered (length lists) keys → position (is_same_pair (record { state = state; set = set })) (pairs_of lists keys) ≡ None
+  pub position-no_set : (keys : List Key) → AreNumbered (length lists) keys
+      → position (is_same_pair (record { state = state; set = set })) (pairs_of lists keys) ≡ None
   position-no_set keys numbered =
-      let place : position_or_len (is_same_pair (record { state = state; set = set })) (pairs_of lists keys) ≡ length (pairs_of lists keys) = place-no_set keys numbered ∙ sym (length-pairs_of lists keys) in
-      let past : nat_lt (position_or_len (is_same_pair (record { state = state; set = set })) (pairs_of lists keys)) (length (pairs_of lists keys)) ≡ false = le-ltb (position_or_len (is_same_pair (record { state = state; set = set })) (pairs_of lists keys)) (length (pairs_of lists keys)) (omega (arith, place)) in
+      let place : position_or_len (is_same_pair (record { state = state; set = set })) (pairs_of lists keys) ≡ length
+      (pairs_of lists keys) = place-no_set keys numbered ∙ sym (length-pairs_of lists keys) in
+      let past : nat_lt (position_or_len (is_same_pair (record { state = state; set = set })) (pairs_of lists keys))
+      (length (pairs_of lists keys)) ≡ false = le-ltb (position_or_len (is_same_pair (record { state = state; set = set })) (pairs_of lists keys))
+      (length (pairs_of lists keys)) (omega (arith, place)) in
       ap (λ b. cond b (Some (position_or_len (is_same_pair (record { state = state; set = set })) (pairs_of lists keys))) None) past

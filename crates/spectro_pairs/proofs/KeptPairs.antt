@@ -61,7 +61,8 @@ weight-low x n r members few many = elim (cases_lt n 20) [ inl below ↦ exact (
         (omega arith, λ m. absurd (omega arith))
 
 -- each pair is within the states
-pub pairs-within : (states limit n : ℕ) (known : Known) (sets : List (Vec ℕ Global)) (keys : List Key) → AreInterned states limit n known sets keys → All (IsPairWithin states) (pairs_of (lists_of sets) keys)
+pub pairs-within : (states limit n : ℕ) (known : Known) (sets : List (Vec ℕ Global)) (keys : List Key) → AreInterned states limit n known sets keys
+    → All (IsPairWithin states) (pairs_of (lists_of sets) keys)
 unfolding pair_at
 pairs-within states limit n known sets keys well k d within =
     let lists = lists_of sets in
@@ -101,7 +102,8 @@ module _ {states limit n : ℕ} {known : Known} {sets : List (Vec ℕ Global)} {
       once = subst StandOnce (sym put) (once-with_last bytes_eq set-equal set-itself (lists_of sets) set well.once);
       within = subst (All (IsSetWithin states)) (sym put) (All-with_last (IsSetWithin states) bytes_eq (lists_of sets) set well.within within);
       in_range = well.in_range;
-      numbered = All-weaker (λ (key : Key). key.set < length (lists_of sets)) (λ (key : Key). key.set < length (lists_of more)) (λ key below. omega (arith, no-fewer)) keys well.numbered;
+      numbered = All-weaker (λ (key : Key). key.set < length (lists_of sets)) (λ (key : Key). key.set < length (lists_of more))
+          (λ key below. omega (arith, no-fewer)) keys well.numbered;
       apart = well.apart;
       sized = well.sized ∙ sym (ap size same-pairs);
       small = well.small;
@@ -127,7 +129,8 @@ module _ {states limit n : ℕ} {known : Known} {sets : List (Vec ℕ Global)} {
     wide = same ∙ well.wide;
     exact = λ p q m knows. elim (cases p q m knows) [
       | inl old ↦ well.exact p q m old
-      | inr (one, other, last) ↦ subst (λ j. StandsAt keys j (record { state = q; set = p })) (sym last) (subst (StandsAt keys k) (λ i. record { state = sym other i; set = sym one i }) here)
+      | inr (one, other, last) ↦ subst (λ j. StandsAt keys j (record { state = q; set = p })) (sym last)
+          (subst (StandsAt keys k) (λ i. record { state = sym other i; set = sym one i }) here)
     ];
   }
 
@@ -139,25 +142,30 @@ module _ {states limit n : ℕ} {known : Known} {sets : List (Vec ℕ Global)} {
     abbrev new : Pair
     new = pair_at (lists_of sets) key.state key.set
 
-    pub put-pair : pairs_of (lists_of sets) (with_last is_same_key keys key) ≡ with_last is_same_pair (pairs_of (lists_of sets) keys) (pair_at (lists_of sets) key.state key.set)
+    pub put-pair : pairs_of (lists_of sets) (with_last is_same_key keys key) ≡ with_last is_same_pair (pairs_of (lists_of sets) keys)
+        (pair_at (lists_of sets) key.state key.set)
     put-pair = pairs_of-with_key (lists_of sets) well.once keys key below well.numbered
 
-    pub known-pair : list_any (is_same_key key) keys ≡ true → with_last is_same_pair (pairs_of (lists_of sets) keys) (pair_at (lists_of sets) key.state key.set) ≡ pairs_of (lists_of sets) keys
+    pub known-pair : list_any (is_same_key key) keys ≡ true
+        → with_last is_same_pair (pairs_of (lists_of sets) keys) (pair_at (lists_of sets) key.state key.set) ≡ pairs_of (lists_of sets) keys
     known-pair known = with_last-known is_same_pair pairs new (sym (any-pairs (lists_of sets) well.once key keys below well.numbered) ∙ known)
 
     pub new-size : list_any (is_same_key key) keys ≡ false
-        → size (with_last is_same_pair (pairs_of (lists_of sets) keys) (pair_at (lists_of sets) key.state key.set)) ≡ n + weight (pair_at (lists_of sets) key.state key.set)
+        → size (with_last is_same_pair (pairs_of (lists_of sets) keys) (pair_at (lists_of sets) key.state key.set)) ≡ n + weight
+        (pair_at (lists_of sets) key.state key.set)
     new-size none =
         let put = with_last-new is_same_pair pairs new (sym (any-pairs (lists_of sets) well.once key keys below well.numbered) ∙ none) in
         let sized = well.sized in
         omega (arith, ap size put, size-append pairs (new ∷ []), size-one new, sized)
 
     pub interned-key : (m : ℕ) (more : List Key) → more ≡ with_last is_same_key keys key → key.state < states
-        → m ≡ size (with_last is_same_pair (pairs_of (lists_of sets) keys) (pair_at (lists_of sets) key.state key.set)) → m ≤ limit → AreInterned states limit m known sets more
+        → m ≡ size (with_last is_same_pair (pairs_of (lists_of sets) keys) (pair_at (lists_of sets) key.state key.set)) → m ≤ limit
+        → AreInterned states limit m known sets more
     interned-key m more put in_range sized small = record {
       once = well.once;
       within = well.within;
-      in_range = subst (All (λ (key : Key). key.state < states)) (sym put) (All-with_last (λ (key : Key). key.state < states) is_same_key keys key well.in_range in_range);
+      in_range = subst (All (λ (key : Key). key.state < states)) (sym put)
+          (All-with_last (λ (key : Key). key.state < states) is_same_key keys key well.in_range in_range);
       numbered = subst (All (λ (key : Key). key.set < length (lists_of sets))) (sym put)
           (All-with_last (λ (key : Key). key.set < length (lists_of sets)) is_same_key keys key well.numbered below);
       apart = subst StandOnce (sym put) (once-with_last is_same_key same_key-equal same_key-itself keys key well.apart);
@@ -166,7 +174,8 @@ module _ {states limit n : ℕ} {known : Known} {sets : List (Vec ℕ Global)} {
       bound = well.bound;
       few = well.few;
       wide = well.wide;
-      exact = λ p q m knows. subst (λ l. StandsAt l m (record { state = q; set = p })) (sym put) (stands-with_last is_same_key same_key-equal same_key-itself keys key m (record { state = q; set = p }) (well.exact p q m knows));
+      exact = λ p q m knows. subst (λ l. StandsAt l m (record { state = q; set = p })) (sym put)
+          (stands-with_last is_same_key same_key-equal same_key-itself keys key m (record { state = q; set = p }) (well.exact p q m knows));
     }
 
     -- the weight of the pair, by the members of its set
@@ -174,4 +183,5 @@ module _ {states limit n : ℕ} {known : Known} {sets : List (Vec ℕ Global)} {
         → (m < 20 → r ≡ 1 + 2 ^ m + (if m == 1 then 1 else 0)) → (20 ≤ m → r ≡ 1048577)
         → (r ≤ weight (pair_at (lists_of sets) key.state key.set)) × (r ≤ 1000000 → r ≡ weight (pair_at (lists_of sets) key.state key.set))
     weight-new set m r here members =
-        weight-low new m r (members ∙ set.ok.0 ∙ sym (ap (λ (x : Pair). length x.set) (pair_at-set (lists_of sets) key.state key.set set.items (stands-lists sets key.set set here))))
+        weight-low new m r (members ∙ set.ok.0
+        ∙ sym (ap (λ (x : Pair). length x.set) (pair_at-set (lists_of sets) key.state key.set set.items (stands-lists sets key.set set here))))

@@ -12,9 +12,11 @@ use Rattle.spectro_pairs.specs.Growth.{Name}
 pub length-named : {X : Type 0} (members : List X) (row : List ℕ) (list : List X) → Name members row list → length row ≡ length list
 length-named members row list named = sym (length-map row (slice_get members)) ∙ ap length named ∙ length-map list Some
 
-pub named-place : {X : Type 0} (members : List X) (row : List ℕ) (list : List X) (i : ℕ) (x : X) → Name members row list → StandsAt list i x → StandsAt members (get_or row i 0) x
+pub named-place : {X : Type 0} (members : List X) (row : List ℕ) (list : List X) (i : ℕ) (x : X) → Name members row list → StandsAt list i x
+    → StandsAt members (get_or row i 0) x
 named-place members row [] i x named here = absurd (cc)
-named-place members [] (y ∷ list) i x named here = absurd (let e : length {A = ℕ} [] ≡ length (y ∷ list) = length-named members [] (y ∷ list) named in omega (arith, e))
+named-place members [] (y ∷ list) i x named here = absurd
+    (let e : length {A = ℕ} [] ≡ length (y ∷ list) = length-named members [] (y ∷ list) named in omega (arith, e))
 named-place members (n ∷ row) (y ∷ list) zero x named here =
     let first : slice_get members n ≡ Some y = cc in
     let e : y ≡ x = cc in
@@ -57,8 +59,10 @@ pub named-at : {X Y : Type 0} (members : List X) (rows : List (List ℕ)) (f : Y
     → NameRows members rows (map f ys) → StandsAt rows k row → StandsAt ys k y → Name members row (f y)
 named-at members rows f ys k row y named here there = named-row members rows (map f ys) k row (f y) named here (stands-map f ys k y there)
 
-pub length-named_rows : {X Y : Type 0} (members : List X) (rows : List (List ℕ)) (f : Y → List X) (ys : List Y) → NameRows members rows (map f ys) → length rows ≡ length ys
-length-named_rows members rows f ys named = sym (length-map rows (map (slice_get members))) ∙ ap length named ∙ length-map (map f ys) (map Some) ∙ length-map ys f
+pub length-named_rows : {X Y : Type 0} (members : List X) (rows : List (List ℕ)) (f : Y → List X) (ys : List Y) → NameRows members rows (map f ys)
+    → length rows ≡ length ys
+length-named_rows members rows f ys named = sym (length-map rows (map (slice_get members))) ∙ ap length named ∙ length-map (map f ys) (map Some)
+    ∙ length-map ys f
 
 -- ---- as rows and members come to them
 module _ {X : Type 0} where
@@ -96,7 +100,8 @@ module _ {X : Type 0} where
       All-cons (λ row. All (λ n. n < length xs) row) ns rows (name-below xs ns ys here) (rows-below xs rows lists later)
 
   -- what is made of the first k members, and of the next
-  pub first-more : {Y : Type 0} (f : X → Y) (xs rest ys : List X) (k : ℕ) (x : X) → StandsAt xs k x → ys ≡ xs ++ rest → map f (take (k + 1) ys) ≡ map f (take k xs) ++ f x ∷ []
+  pub first-more : {Y : Type 0} (f : X → Y) (xs rest ys : List X) (k : ℕ) (x : X) → StandsAt xs k x → ys ≡ xs ++ rest
+      → map f (take (k + 1) ys) ≡ map f (take k xs) ++ f x ∷ []
   first-more f xs rest ys k x here grown =
       let below : k < length xs = stands-below xs k x here in
       let within : k + 1 ≤ length xs = omega arith in

@@ -27,7 +27,8 @@ hits-below (other ∷ others) label below h = go (bytes_eq label other) refl (hi
     first (third ∷ labels) next = before-chain label other third below next
 
     go : (same : Bool) → bytes_eq label other ≡ same → hits others label ≡ 0 → cond same 1 0 + hits others label ≡ 0
-    go true is rest = absurd (true≢false (sym (subst (λ x. is_before_text label x ≡ true) (sym ((bytes_eq-Decides label other).0 is)) below) ∙ before-not_itself label))
+    go true is rest = absurd
+        (true≢false (sym (subst (λ x. is_before_text label x ≡ true) (sym ((bytes_eq-Decides label other).0 is)) below) ∙ before-not_itself label))
     go false is rest = omega (arith, rest)
 
 hits-one : (labels : List Label) (label : Label) → AreInOrder labels → hits labels label ≤ 1
@@ -51,7 +52,8 @@ unfolding total
 total-none p [] = refl
 total-none p (label ∷ labels) = omega (arith, total-none p labels)
 
-one-more : (p : ℕ) (label : Label) (step : Step) (steps : List Step) → length (targets_of (step ∷ steps) (p ∷ []) label) ≤ cond (bytes_eq step.label label) 1 0 + length (targets_of steps (p ∷ []) label)
+one-more : (p : ℕ) (label : Label) (step : Step) (steps : List Step)
+    → length (targets_of (step ∷ steps) (p ∷ []) label) ≤ cond (bytes_eq step.label label) 1 0 + length (targets_of steps (p ∷ []) label)
 one-more p label step steps = go (list_any (λ q. q == step.source) (p ∷ [])) (bytes_eq step.label label)
   where
     go : (from under : Bool)
@@ -73,17 +75,34 @@ total-steps p labels [] h = omega (arith, total-none p labels)
 total-steps p labels (step ∷ steps) h = omega (arith, total-more p labels step steps, hits-one labels step.label h, total-steps p labels steps h)
 
 -- ---- what is observed
-length-observed_under : (system : System) (x : Pair) (label : Label) → length (observed_under system x label) ≤ length (targets_of system.steps (x.state ∷ []) label)
+length-observed_under : (system : System) (x : Pair) (label : Label)
+    → length (observed_under system x label) ≤ length (targets_of system.steps (x.state ∷ []) label)
 unfolding post
 length-observed_under system x label =
-    omega (arith, length-map {B = Pair} (post system (x.state ∷ []) label) (λ t. record { state = t; set = post system x.set label }), length-rising (targets_of system.steps (x.state ∷ []) label))
+    omega (
+      arith,
+      length-map {B = Pair} (post system (x.state ∷ []) label) (λ t. record { state = t; set = post system x.set label }),
+      length-rising
+          (targets_of system.steps (x.state ∷ []) label),
+    )
 
 length-under : (system : System) (x : Pair) (labels : List Label) → length (flat_map (observed_under system x) labels) ≤ total x.state labels system.steps
 unfolding total
 length-under system x [] = omega arith
 length-under system x (label ∷ labels) =
-    omega (arith, length-append (observed_under system x label) (flat_map (observed_under system x) labels), length-observed_under system x label, length-under system x labels)
+    omega (
+      arith,
+      length-append (observed_under system x label)
+          (flat_map (observed_under system x) labels),
+      length-observed_under system x label,
+      length-under system x labels,
+    )
 
 pub observed-steps : (system : System) (x : Pair) → length (observed system x) ≤ length system.steps
 observed-steps system x =
-    omega (arith, length-under system x (labels_from system.steps x.state), total-steps x.state (labels_from system.steps x.state) system.steps (labels_from-in_order system.steps x.state))
+    omega (
+      arith,
+      length-under system x (labels_from system.steps x.state),
+      total-steps x.state (labels_from system.steps x.state) system.steps
+          (labels_from-in_order system.steps x.state),
+    )

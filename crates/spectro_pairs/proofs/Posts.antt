@@ -17,13 +17,16 @@ use Rattle.spectro_pairs.proofs.Sets.{set-equal, set-itself}
 pub posts-kept : (a b : Exploration) → b.posts ≡ a.posts → ((n : ℕ) (set : List ℕ) → StandsAt a.pairs.sets n set → StandsAt b.pairs.sets n set) → KeepsPosts a b
 posts-kept a b same more system posts = record {
   wide = ap (λ (known : Known). known.width) same ∙ posts.wide;
-  exact = λ q label_no n knows. more n (post system (q ∷ []) (label_of system.steps label_no)) (posts.exact q label_no n (subst (λ known. Knows known q label_no n) same knows));
+  exact = λ q label_no n knows. more n (post system (q ∷ []) (label_of system.steps label_no))
+      (posts.exact q label_no n (subst (λ known. Knows known q label_no n) same knows));
 }
 
 -- one set more
-pub posts-numbered : (a : Exploration) (pairs : Interned) (set : List ℕ) → pairs ≡ record a.pairs { sets = with_last bytes_eq a.pairs.sets set } → KeepsPosts a (record a { pairs = pairs })
+pub posts-numbered : (a : Exploration) (pairs : Interned) (set : List ℕ) → pairs ≡ record a.pairs { sets = with_last bytes_eq a.pairs.sets set }
+    → KeepsPosts a (record a { pairs = pairs })
 posts-numbered a pairs set numbered = posts-kept a (record a { pairs = pairs }) refl
-    (λ n other here. subst (λ (p : Interned). StandsAt p.sets n other) (sym numbered) (stands-with_last bytes_eq set-equal set-itself a.pairs.sets set n other here))
+    (λ n other here. subst (λ (p : Interned). StandsAt p.sets n other) (sym numbered)
+    (stands-with_last bytes_eq set-equal set-itself a.pairs.sets set n other here))
 
 -- the number of the set of successors of one state
 pub posts-put : (system : System) (a : Exploration) (known : Known) (q label_no n : ℕ) → known.width ≡ a.posts.width

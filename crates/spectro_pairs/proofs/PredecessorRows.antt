@@ -21,9 +21,12 @@ use Rattle.spectro_pairs.proofs.NamedRows.{length-named, named-place, length-nam
 use Rattle.spectro_pairs.proofs.ArenaRows.{follower-row}
 
 -- the row at the place has the predecessors of that place
-pub predecessor-row : (followers rows : List (List ℕ)) (k : ℕ) (row : List ℕ) → rows ≡ predecessors followers → StandsAt rows k row → k < length followers → row ≡ predecessors_of followers k
+pub predecessor-row : (followers rows : List (List ℕ)) (k : ℕ) (row : List ℕ) → rows ≡ predecessors followers → StandsAt rows k row → k < length followers
+    → row ≡ predecessors_of followers k
 predecessor-row followers rows k row is here below =
-    stands-one rows k row (predecessors_of followers k) here (subst (λ rs. StandsAt rs k (predecessors_of followers k)) (sym is) (stands-map (predecessors_of followers) (range_with_len 0 (length followers)) k k (range-stands (length followers) k below)))
+    stands-one rows k row (predecessors_of followers k) here
+    (subst (λ rs. StandsAt rs k (predecessors_of followers k)) (sym is)
+    (stands-map (predecessors_of followers) (range_with_len 0 (length followers)) k k (range-stands (length followers) k below)))
 
 pub predecessors-rise : (rows : List (List ℕ)) (n k : ℕ) → IsStrictlyIncreasing (predecessors_within rows n k)
 unfolding predecessors_within
@@ -31,7 +34,8 @@ predecessors-rise rows n k = IsStrictlyIncreasing-filter (λ j. stands_in (row_a
 
 member-within : (rows : List (List ℕ)) (n k j : ℕ) → j < n → stands_in (row_at rows j) k ≡ true → Contains (predecessors_within rows n k) j
 unfolding predecessors_within
-member-within rows n k j below there = Contains-filter (λ i. stands_in (row_at rows i) k) (range_with_len 0 n) j (Contains-stands (range_with_len 0 n) j (j, range-stands n j below)) there
+member-within rows n k j below there = Contains-filter (λ i. stands_in (row_at rows i) k) (range_with_len 0 n) j
+    (Contains-stands (range_with_len 0 n) j (j, range-stands n j below)) there
 
 within-member : (rows : List (List ℕ)) (n k j : ℕ) → Contains (predecessors_within rows n k) j → (j < n) × (stands_in (row_at rows j) k ≡ true)
 unfolding predecessors_within
@@ -40,12 +44,15 @@ within-member rows n k j member =
     (range-below n j kept.0, kept.1)
 
 -- there are as many rows as pairs
-pub as_many : (system : System) (weighing : Weighing) (starts : List (ℕ × ℕ)) (explored : Explored) → IsExploredFrom system weighing starts explored → length explored.followers ≡ length explored.pairs
+pub as_many : (system : System) (weighing : Weighing) (starts : List (ℕ × ℕ)) (explored : Explored) → IsExploredFrom system weighing starts explored
+    → length explored.followers ≡ length explored.pairs
 as_many system weighing starts explored source = length-named_rows explored.pairs explored.followers (followers system) explored.pairs source.followers
 
-module _ (system : System) (weighing : Weighing) (starts : List (ℕ × ℕ)) (explored : Explored) (source : IsExploredFrom system weighing starts explored) (k : ℕ) (x : Pair) (here : StandsAt explored.pairs k x) where
+module _ (system : System) (weighing : Weighing) (starts : List (ℕ × ℕ)) (explored : Explored) (source : IsExploredFrom system weighing starts explored)
+    (k : ℕ) (x : Pair) (here : StandsAt explored.pairs k x) where
   row-of : (j : ℕ) (y : Pair) → StandsAt explored.pairs j y → Name explored.pairs (row_at explored.followers j) (followers system y)
-  row-of j y at = follower-row system weighing starts explored source j y at (row_at explored.followers j) (slice_get-get_or explored.followers j [] (omega (arith, as_many system weighing starts explored source, stands-below explored.pairs j y at)))
+  row-of j y at = follower-row system weighing starts explored source j y at (row_at explored.followers j)
+      (slice_get-get_or explored.followers j [] (omega (arith, as_many system weighing starts explored source, stands-below explored.pairs j y at)))
 
   follows-from : (j : ℕ) (y : Pair) → StandsAt explored.pairs j y → stands_in (row_at explored.followers j) k ≡ true → Contains (followers system y) x
   follows-from j y at there =
@@ -53,8 +60,10 @@ module _ (system : System) (weighing : Weighing) (starts : List (ℕ × ℕ)) (e
       let found = list_any-cases (λ other. eqb k other) row there in
       let member = StandsIn-member row found.0 found.1 in
       let number : get_or row member.0 0 ≡ k = get_or_from_slice_get row member.0 found.0 0 member.1 ∙ sym (eqb-true k found.0 found.2) in
-      let z = stands-some (followers system y) member.0 (omega (arith, length-named explored.pairs row (followers system y) (row-of j y at), stands-below row member.0 found.0 member.1)) in
-      let named : StandsAt explored.pairs k z.0 = subst (λ n. StandsAt explored.pairs n z.0) number (named-place explored.pairs row (followers system y) member.0 z.0 (row-of j y at) z.1) in
+      let z = stands-some (followers system y) member.0
+      (omega (arith, length-named explored.pairs row (followers system y) (row-of j y at), stands-below row member.0 found.0 member.1)) in
+      let named : StandsAt explored.pairs k z.0 = subst (λ n. StandsAt explored.pairs n z.0) number
+      (named-place explored.pairs row (followers system y) member.0 z.0 (row-of j y at) z.1) in
       Contains-stands (followers system y) x (member.0, z.1 ∙ ap Some (stands-one explored.pairs k z.0 x named here))
 
   stands-from : (j : ℕ) (y : Pair) → StandsAt explored.pairs j y → Contains (followers system y) x → stands_in (row_at explored.followers j) k ≡ true
@@ -63,7 +72,9 @@ module _ (system : System) (weighing : Weighing) (starts : List (ℕ × ℕ)) (e
       let found = StandsIn-member (followers system y) x follows in
       let named = named-place explored.pairs row (followers system y) found.0 x (row-of j y at) found.1 in
       let number : get_or row found.0 0 ≡ k = source.reached.distinct (get_or row found.0 0) k x named here in
-      list_any_at (λ other. eqb k other) row found.0 0 (omega (arith, length-named explored.pairs row (followers system y) (row-of j y at), stands-below (followers system y) found.0 x found.1)) (eq-eqb k (get_or row found.0 0) (sym number))
+      list_any_at (λ other. eqb k other) row found.0 0
+      (omega (arith, length-named explored.pairs row (followers system y) (row-of j y at), stands-below (followers system y) found.0 x found.1))
+      (eq-eqb k (get_or row found.0 0) (sym number))
 
   pub are_predecessors : (row : List ℕ) → row ≡ predecessors_of explored.followers k → ArePredecessors system explored.pairs k row
   are_predecessors row is = record {
@@ -75,6 +86,8 @@ module _ (system : System) (weighing : Weighing) (starts : List (ℕ × ℕ)) (e
           let y = stands-some explored.pairs j (omega (arith, as_many system weighing starts explored source, kept.0)) in
           (y.0, y.1, follows-from j y.0 y.1 kept.1)),
       (λ (y, at, follows).
-          subst (λ l. Contains l j) (sym is) (member-within explored.followers (length explored.followers) k j (omega (arith, as_many system weighing starts explored source, stands-below explored.pairs j y at)) (stands-from j y at follows))),
+          subst (λ l. Contains l j) (sym is)
+          (member-within explored.followers (length explored.followers) k j
+          (omega (arith, as_many system weighing starts explored source, stands-below explored.pairs j y at)) (stands-from j y at follows))),
     );
   }

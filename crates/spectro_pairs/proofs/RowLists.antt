@@ -32,7 +32,8 @@ stands-rows_to from (end ∷ ends) numbers (suc k) below = stands-rows_to end en
 
 -- the same, where the rows, the numbers and the ends of the row go by other names
 pub row_read : (ends numbers flat : List ℕ) (rows : List (List ℕ)) (k from to : ℕ)
-    → rows_to 0 ends numbers ≡ rows → k < length ends → from ≡ start_of 0 ends k → to ≡ get_or ends k 0 → flat ≡ numbers → slice_get rows k ≡ Some (take (to - from) (drop from flat))
+    → rows_to 0 ends numbers ≡ rows → k < length ends → from ≡ start_of 0 ends k → to ≡ get_or ends k 0 → flat ≡ numbers
+    → slice_get rows k ≡ Some (take (to - from) (drop from flat))
 row_read ends numbers flat rows k from to is below start end same =
     let stands = stands-rows_to 0 ends numbers k below in
     cc
@@ -47,7 +48,8 @@ from-within from [] numbers here = here
 from-within from (end ∷ ends) numbers (up, rest) = omega (arith, from-within end ends numbers rest)
 
 -- a row begins before it ends, and ends within the numbers
-pub row-within : (from : ℕ) (ends numbers : List ℕ) (k : ℕ) → AreEnds from ends numbers → k < length ends → (start_of from ends k ≤ get_or ends k 0) × (get_or ends k 0 ≤ length numbers)
+pub row-within : (from : ℕ) (ends numbers : List ℕ) (k : ℕ) → AreEnds from ends numbers → k < length ends
+    → (start_of from ends k ≤ get_or ends k 0) × (get_or ends k 0 ≤ length numbers)
 unfolding AreEnds start_of
 row-within from [] numbers k are below = absurd (omega arith)
 row-within from (end ∷ ends) numbers zero (up, rest) below = (up, from-within end ends numbers rest)
@@ -66,11 +68,13 @@ rows_to-more from (end ∷ ends) numbers more (up, rest) =
     let within : end ≤ length numbers = from-within end ends numbers rest in
     let start : from ≤ length numbers = omega arith in
     let first : take (end - from) (drop from (numbers ++ more)) ≡ take (end - from) (drop from numbers) =
-    ap (take (end - from)) (drop-append-le from numbers more start) ∙ take-append-le (end - from) (drop from numbers) more (omega (arith, length-drop from numbers)) in
+    ap (take (end - from)) (drop-append-le from numbers more start)
+    ∙ take-append-le (end - from) (drop from numbers) more (omega (arith, length-drop from numbers)) in
     let later : rows_to end ends (numbers ++ more) ≡ rows_to end ends numbers = rows_to-more end ends numbers more rest in
     cc
 
-last_after-more : (from : ℕ) (ends numbers more : List ℕ) → AreEnds from ends numbers → last_after from ends (numbers ++ more) ≡ last_after from ends numbers ++ more
+last_after-more : (from : ℕ) (ends numbers more : List ℕ) → AreEnds from ends numbers
+    → last_after from ends (numbers ++ more) ≡ last_after from ends numbers ++ more
 unfolding AreEnds last_after
 last_after-more from [] numbers more here = drop-append-le from numbers more here
 last_after-more from (end ∷ ends) numbers more (up, rest) = last_after-more end ends numbers more rest
@@ -81,7 +85,8 @@ unfolding AreEnds
 ends-closed from [] numbers here = (here, (omega arith))
 ends-closed from (end ∷ ends) numbers (up, rest) = (up, ends-closed end ends numbers rest)
 
-rows_to-closed : (from : ℕ) (ends numbers : List ℕ) → rows_to from (ends ++ length numbers ∷ []) numbers ≡ rows_to from ends numbers ++ last_after from ends numbers ∷ []
+rows_to-closed : (from : ℕ) (ends numbers : List ℕ)
+    → rows_to from (ends ++ length numbers ∷ []) numbers ≡ rows_to from ends numbers ++ last_after from ends numbers ∷ []
 unfolding rows_to last_after
 rows_to-closed from [] numbers = ap (λ row. row ∷ []) (take_all (length numbers - from) (drop from numbers) (omega (arith, length-drop from numbers)))
 rows_to-closed from (end ∷ ends) numbers = ap (λ rows. take (end - from) (drop from numbers) ∷ rows) (rows_to-closed end ends numbers)
@@ -119,7 +124,8 @@ rows_of-closed ends numbers new old is more =
     ∙ ap (λ (r : RowList). record { rows = r.rows ++ r.last ∷ []; last = [] }) is
 
 -- ends that do not fall and are within the numbers, by place
-pub are_ends : (from : ℕ) (ends numbers : List ℕ) → ((k : ℕ) → k < length ends → start_of from ends k ≤ get_or ends k 0) → start_of from ends (length ends) ≤ length numbers → AreEnds from ends numbers
+pub are_ends : (from : ℕ) (ends numbers : List ℕ) → ((k : ℕ) → k < length ends → start_of from ends k ≤ get_or ends k 0)
+    → start_of from ends (length ends) ≤ length numbers → AreEnds from ends numbers
 unfolding AreEnds start_of
 are_ends from [] numbers up last = last
 are_ends from (end ∷ ends) numbers up last = (up 0 (omega arith), are_ends end ends numbers (λ k below. up (suc k) (omega arith)) last)

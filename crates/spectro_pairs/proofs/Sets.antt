@@ -47,16 +47,19 @@ pub stands-lists : (sets : List (Vec ℕ Global)) (n : ℕ) (set : Vec ℕ Globa
 unfolding lists_of
 stands-lists sets n set here = stands-map (λ (v : Vec ℕ Global). v.items) sets n set here
 
-pub stands-same : (sets : List (Vec ℕ Global)) (n : ℕ) (set : Vec ℕ Global) (list : List ℕ) → slice_get sets n ≡ Some set → bytes_eq list set.items ≡ true → StandsAt (lists_of sets) n list
+pub stands-same : (sets : List (Vec ℕ Global)) (n : ℕ) (set : Vec ℕ Global) (list : List ℕ) → slice_get sets n ≡ Some set → bytes_eq list set.items ≡ true
+    → StandsAt (lists_of sets) n list
 stands-same sets n set list here same = subst (StandsAt (lists_of sets) n) (sym (set-equal list set.items same)) (stands-lists sets n set here)
 
-pub found-lists : (list : List ℕ) (sets : List (Vec ℕ Global)) (n : ℕ) → position (λ (set : Vec ℕ Global). bytes_eq list set.items) sets ≡ Some n → StandsAt (lists_of sets) n list
+pub found-lists : (list : List ℕ) (sets : List (Vec ℕ Global)) (n : ℕ) → position (λ (set : Vec ℕ Global). bytes_eq list set.items) sets ≡ Some n
+    → StandsAt (lists_of sets) n list
 found-lists list [] n found = cc
 found-lists list (first ∷ sets) n found =
     let at = position-Some (λ (set : Vec ℕ Global). bytes_eq list set.items) (first ∷ sets) n first found in
     stands-same (first ∷ sets) n (get_or (first ∷ sets) n first) list (slice_get-get_or (first ∷ sets) n first at.0) at.1
 
-pub any-lists : (list : List ℕ) (sets : List (Vec ℕ Global)) → list_any (λ (set : Vec ℕ Global). bytes_eq list set.items) sets ≡ list_any (bytes_eq list) (lists_of sets)
+pub any-lists : (list : List ℕ) (sets : List (Vec ℕ Global))
+    → list_any (λ (set : Vec ℕ Global). bytes_eq list set.items) sets ≡ list_any (bytes_eq list) (lists_of sets)
 unfolding lists_of
 any-lists list [] = refl
 any-lists list (set ∷ sets) = ap (λ b. bytes_eq list set.items || b) (any-lists list sets)
@@ -70,7 +73,8 @@ lists_of-push (first ∷ sets) set = ap (λ lists. first.items ∷ lists) (lists
 pub lists_of-insert_key : (sets : List (Vec ℕ Global)) (set : Vec ℕ Global)
     → lists_of (insert_key (λ (x : Vec ℕ Global) (y : Vec ℕ Global). bytes_eq x.items y.items) sets set) ≡ with_last bytes_eq (lists_of sets) set.items
 unfolding with_last
-lists_of-insert_key sets set = go (list_any (λ (y : Vec ℕ Global). bytes_eq set.items y.items) sets) (list_any (bytes_eq set.items) (lists_of sets)) (any-lists set.items sets)
+lists_of-insert_key sets set = go (list_any (λ (y : Vec ℕ Global). bytes_eq set.items y.items) sets) (list_any (bytes_eq set.items) (lists_of sets))
+    (any-lists set.items sets)
   where
     go : (a b : Bool) → a ≡ b → lists_of (if a then sets else sets ++ set ∷ []) ≡ cond b (lists_of sets) (lists_of sets ++ set.items ∷ [])
     go true true e = refl

@@ -43,7 +43,8 @@ module _ {X Y : Type 0} (f : X → List Y) (xs : List X) (i : ℕ) where
 -- ---- the labels of what is observed, told by their numbers
 module _ (labels : List Label) where
   -- a label that is told once for each target
-  name-same : (label_no : ℕ) (targets : List ℕ) → label_no < length labels → Name labels (map (λ t. label_no) targets) (map (λ t. get_or labels label_no []) targets)
+  name-same : (label_no : ℕ) (targets : List ℕ) → label_no < length labels
+      → Name labels (map (λ t. label_no) targets) (map (λ t. get_or labels label_no []) targets)
   name-same label_no [] below = refl
   name-same label_no (t ∷ targets) below =
       let first = slice_get-get_or labels label_no [] below in
@@ -52,11 +53,14 @@ module _ (labels : List Label) where
 
   -- the labels of all observations
   pub name-observed : (targets : Label → List ℕ) (nos : List ℕ) → All (λ label_no. label_no < length labels) nos
-      → Name labels (flat_map (λ label_no. map (λ t. label_no) (targets (get_or labels label_no []))) nos) (flat_map (λ label. map (λ t. label) (targets label)) (map (λ label_no. get_or labels label_no []) nos))
+      → Name labels (flat_map (λ label_no. map (λ t. label_no) (targets (get_or labels label_no []))) nos)
+      (flat_map (λ label. map (λ t. label) (targets label)) (map (λ label_no. get_or labels label_no []) nos))
   name-observed targets [] below = refl
   name-observed targets (label_no ∷ nos) below =
-      name-append labels (map (λ t. label_no) (targets (get_or labels label_no []))) (flat_map (λ label_no. map (λ t. label_no) (targets (get_or labels label_no []))) nos)
-      (map (λ t. get_or labels label_no []) (targets (get_or labels label_no []))) (flat_map (λ label. map (λ t. label) (targets label)) (map (λ label_no. get_or labels label_no []) nos))
+      name-append labels (map (λ t. label_no) (targets (get_or labels label_no [])))
+      (flat_map (λ label_no. map (λ t. label_no) (targets (get_or labels label_no []))) nos)
+      (map (λ t. get_or labels label_no []) (targets (get_or labels label_no [])))
+      (flat_map (λ label. map (λ t. label) (targets label)) (map (λ label_no. get_or labels label_no []) nos))
       (name-same label_no (targets (get_or labels label_no [])) (below zero zero (omega arith)))
       (name-observed targets nos (λ k d within. below (suc k) d (omega arith)))
 
@@ -74,17 +78,20 @@ module _ (state : ℕ) (set : List ℕ) where
   below-mask : (mask : ℕ) (d : Division) → 1 ≤ mask → StandsAt (divisions set) mask d → mask - 1 < length (drop 1 (divisions set))
   below-mask mask d some here = omega (arith, stands-below (divisions set) mask d here, length-drop 1 (divisions set))
 
-  pub subsets-more : (mask : ℕ) (d : Division) → 1 ≤ mask → StandsAt (divisions set) mask d → subsets_to (mask + 1) ≡ subsets_to mask ++ pair_of state d.left ∷ []
+  pub subsets-more : (mask : ℕ) (d : Division) → 1 ≤ mask → StandsAt (divisions set) mask d
+      → subsets_to (mask + 1) ≡ subsets_to mask ++ pair_of state d.left ∷ []
   subsets-more mask d some here =
       ap (λ n. map (λ (d : Division). pair_of state d.left) (take n (drop 1 (divisions set)))) (let e : mask + 1 - 1 ≡ mask - 1 + 1 = omega arith in e)
       ∙ map_more (λ (d : Division). pair_of state d.left) (drop 1 (divisions set)) (mask - 1) d (below-mask mask d some here)
       ∙ ap (λ (e : Division). subsets_to mask ++ pair_of state e.left ∷ []) (at-mask mask d some here)
 
   pub subsets-whole : (mask : ℕ) (d : Division) → 1 ≤ mask → StandsAt (divisions set) mask d
-      → subsets (pair_of state set) ≡ (subsets_to mask ++ pair_of state d.left ∷ []) ++ map (λ (d : Division). pair_of state d.left) (drop (mask - 1 + 1) (drop 1 (divisions set)))
+      → subsets (pair_of state set) ≡ (subsets_to mask ++ pair_of state d.left ∷ []) ++ map (λ (d : Division). pair_of state d.left)
+      (drop (mask - 1 + 1) (drop 1 (divisions set)))
   subsets-whole mask d some here =
       map-whole (λ (d : Division). pair_of state d.left) (drop 1 (divisions set)) (mask - 1) d (below-mask mask d some here)
-      ∙ ap (λ (e : Division). (subsets_to mask ++ pair_of state e.left ∷ []) ++ map (λ (d : Division). pair_of state d.left) (drop (mask - 1 + 1) (drop 1 (divisions set))))
+      ∙ ap (λ (e : Division). (subsets_to mask ++ pair_of state e.left ∷ []) ++ map (λ (d : Division). pair_of state d.left)
+      (drop (mask - 1 + 1) (drop 1 (divisions set))))
       (at-mask mask d some here)
 
   pub subsets-all : (mask : ℕ) → 2 ^ length set ≤ mask → subsets_to mask ≡ subsets (pair_of state set)

@@ -11,7 +11,8 @@ use Rattle.spectro_pairs.specs.Predecessors.{predecessors}
 
 -- said of each system and each weighing from which the arena was explored
 abbrev pub FromEach : Explored → (System → Weighing → Type 0) → Type 0
-FromEach explored Holds = (system : System) (weighing : Weighing) (starts : List (ℕ × ℕ)) → IsExploredFrom system weighing starts explored → Holds system weighing
+FromEach explored Holds = (system : System) (weighing : Weighing) (starts : List (ℕ × ℕ)) → IsExploredFrom system weighing starts explored
+    → Holds system weighing
 
 -- the set of the pair of the number
 abbrev pub set_at : List Pair → ℕ → List ℕ

@@ -21,7 +21,8 @@ observed_with system state set label_no = observed_under system (pair_of state s
 -- what is kept by state and label is the number of the set of successors
 pub record ArePosts (system : System) (exploration : Exploration) : Type 0 where
   pub wide : exploration.posts.width ≡ length (labels_of system.steps)
-  pub exact : (q label_no n : ℕ) → Knows exploration.posts q label_no n → StandsAt exploration.pairs.sets n (post system (q ∷ []) (label_of system.steps label_no))
+  pub exact : (q label_no n : ℕ) → Knows exploration.posts q label_no n
+      → StandsAt exploration.pairs.sets n (post system (q ∷ []) (label_of system.steps label_no))
 
 -- what is kept for a system is kept for it
 abbrev pub KeepsPosts : Exploration → Exploration → Type 0

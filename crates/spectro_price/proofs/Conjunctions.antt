@@ -17,11 +17,13 @@ second_greatest-push [] n = omega arith
 second_greatest-push (m ∷ ns) n = omega (arith, greatest-push ns n, second_greatest-push ns n)
 
 -- ---- one clause more at the end
-greatest_part-push : (part : Price → ℕ) (clauses : List PricedClause) (clause : PricedClause) → greatest_part part (clauses ++ clause ∷ []) ≡ max (greatest_part part clauses) (part (price_of_clause clause))
+greatest_part-push : (part : Price → ℕ) (clauses : List PricedClause) (clause : PricedClause)
+    → greatest_part part (clauses ++ clause ∷ []) ≡ max (greatest_part part clauses) (part (price_of_clause clause))
 greatest_part-push part [] clause = omega arith
 greatest_part-push part (first ∷ clauses) clause = omega (arith, greatest_part-push part clauses clause)
 
-positive_depths-plus : (clauses : List PricedClause) (e : Price) → positive_depths (clauses ++ plus_price e ∷ []) ≡ positive_depths clauses ++ e.observations ∷ []
+positive_depths-plus : (clauses : List PricedClause) (e : Price)
+    → positive_depths (clauses ++ plus_price e ∷ []) ≡ positive_depths clauses ++ e.observations ∷ []
 positive_depths-plus [] e = refl
 positive_depths-plus (plus_price f ∷ clauses) e = ap (λ ns. f.observations ∷ ns) (positive_depths-plus clauses e)
 positive_depths-plus (minus_price f ∷ clauses) e = positive_depths-plus clauses e
@@ -36,7 +38,8 @@ negative_depths-plus [] e = refl
 negative_depths-plus (plus_price f ∷ clauses) e = negative_depths-plus clauses e
 negative_depths-plus (minus_price f ∷ clauses) e = ap (λ ns. f.observations ∷ ns) (negative_depths-plus clauses e)
 
-negative_depths-minus : (clauses : List PricedClause) (e : Price) → negative_depths (clauses ++ minus_price e ∷ []) ≡ negative_depths clauses ++ e.observations ∷ []
+negative_depths-minus : (clauses : List PricedClause) (e : Price)
+    → negative_depths (clauses ++ minus_price e ∷ []) ≡ negative_depths clauses ++ e.observations ∷ []
 negative_depths-minus [] e = refl
 negative_depths-minus (plus_price f ∷ clauses) e = negative_depths-minus clauses e
 negative_depths-minus (minus_price f ∷ clauses) e = ap (λ ns. f.observations ∷ ns) (negative_depths-minus clauses e)
@@ -69,7 +72,8 @@ cost_of-minus : (clauses : List PricedClause) (e : Price) → cost_of (clauses +
 cost_of-minus clauses e =
     same_price _ _ (greatest_part-push (λ f. f.observations) clauses (minus_price e)) (greatest_part-push (λ f. f.conjunctions) clauses (minus_price e))
     (greatest_part-push (λ f. f.deepest_positive) clauses (minus_price e)) (greatest_part-push (λ f. f.other_positive) clauses (minus_price e))
-    (rw (negative_depths-minus clauses e) (omega (arith, greatest_part-push (λ f. f.deepest_negative) clauses (minus_price e), greatest-push (negative_depths clauses) e.observations)))
+    (rw (negative_depths-minus clauses e)
+    (omega (arith, greatest_part-push (λ f. f.deepest_negative) clauses (minus_price e), greatest-push (negative_depths clauses) e.observations)))
     (greatest_part-push (λ f. f.negations) clauses (minus_price e)) (greatest_part-push (λ f. f.weighted_depth) clauses (minus_price e))
 
 -- where so many clauses were looked at: what they cost, and the two greatest depths of positive ones
@@ -79,7 +83,8 @@ pub record IsCost (clauses : List PricedClause) (cost : Price) (deepest other : 
   pub second : other ≡ second_greatest (positive_depths clauses)
 
 pub IsCost-plus : (clauses more : List PricedClause) (cost cost' : Price) (deepest deepest' other other' : ℕ) (e : Price) → IsCost clauses cost deepest other
-    → more ≡ clauses ++ plus_price e ∷ [] → cost' ≡ sup cost e → deepest' ≡ max deepest e.observations → other' ≡ max other (min e.observations deepest) → IsCost more cost' deepest' other'
+    → more ≡ clauses ++ plus_price e ∷ [] → cost' ≡ sup cost e → deepest' ≡ max deepest e.observations → other' ≡ max other (min e.observations deepest)
+    → IsCost more cost' deepest' other'
 IsCost-plus clauses more cost cost' deepest deepest' other other' e so_far one_more costs first second =
     rw one_more
     (record {
@@ -105,10 +110,12 @@ price_of_conjunction-from_cost clauses cost deepest other so_far =
     rw (so_far.costs, so_far.first, so_far.second) (same_price _ _ (omega arith) (omega arith) refl refl (omega arith) (omega arith) (omega arith))
 
 -- ---- a conjunction costs little where its clauses do
-pub plus-low : (n : ℕ) (clauses : List PricedClause) (e : Price) → IsAtMost e (limit (n + 1)) → IsAtMost (price_of_conjunction clauses) (limit (n + 2)) → IsAtMost (price_of_conjunction (plus_price e ∷ clauses)) (limit (n + 2))
+pub plus-low : (n : ℕ) (clauses : List PricedClause) (e : Price) → IsAtMost e (limit (n + 1)) → IsAtMost (price_of_conjunction clauses) (limit (n + 2))
+    → IsAtMost (price_of_conjunction (plus_price e ∷ clauses)) (limit (n + 2))
 plus-low n clauses e here there = omega arith
 
-pub minus-low : (n : ℕ) (clauses : List PricedClause) (e : Price) → IsAtMost e (limit (n + 1)) → IsAtMost (price_of_conjunction clauses) (limit (n + 2)) → IsAtMost (price_of_conjunction (minus_price e ∷ clauses)) (limit (n + 2))
+pub minus-low : (n : ℕ) (clauses : List PricedClause) (e : Price) → IsAtMost e (limit (n + 1)) → IsAtMost (price_of_conjunction clauses) (limit (n + 2))
+    → IsAtMost (price_of_conjunction (minus_price e ∷ clauses)) (limit (n + 2))
 minus-low n clauses e here there = omega arith
 
 pub none-low : (n : ℕ) → IsAtMost (price_of_conjunction []) (limit (n + 2))

@@ -13,13 +13,15 @@ use Rattle.spectro_price.proofs.Conjunctions.{plus-low, minus-low, none-low}
 pub price_at-prices_of : (before : List Energy) (k : ℕ) (d : Energy) → k < length before → price_at (prices_of before) k ≡ price_of (get_or before k d).parts
 price_at-prices_of before k d within = get_or-map (λ energy. price_of energy.parts) before k d (price_of_conjunction []) within
 
-pub read-low : (n : ℕ) (before : List Energy) (k : ℕ) (d : Energy) → k < length before → AreLow n (prices_of before) → IsAtMost (price_of (get_or before k d).parts) (limit n)
+pub read-low : (n : ℕ) (before : List Energy) (k : ℕ) (d : Energy) → k < length before → AreLow n (prices_of before)
+    → IsAtMost (price_of (get_or before k d).parts) (limit n)
 read-low n before k d within low = subst (λ e. IsAtMost e (limit n)) (price_at-prices_of before k d within) (low k)
 
 pub observation-low : (n weight : ℕ) (e : Price) → weight ≤ 255 → IsAtMost e (limit (n + 1)) → IsAtMost (price_of_observation weight e) (limit (n + 2))
 observation-low n weight e light low = omega arith
 
-pub conjunction-low : (n : ℕ) (prices : List Price) (clauses : List Clause) → AreLow (n + 1) prices → IsAtMost (price_of_conjunction (map (priced_clause prices) clauses)) (limit (n + 2))
+pub conjunction-low : (n : ℕ) (prices : List Price) (clauses : List Clause) → AreLow (n + 1) prices
+    → IsAtMost (price_of_conjunction (map (priced_clause prices) clauses)) (limit (n + 2))
 conjunction-low n prices [] low = none-low n
 conjunction-low n prices (clause ∷ clauses) low = by clause.positive (price_at prices clause.node) (low clause.node) (conjunction-low n prices clauses low)
   where

@@ -23,12 +23,15 @@ AreLow-push n m [] e is low here (suc k) = omega arith
 AreLow-push n m (f ∷ prices) e is low here zero = let first = low 0 in omega arith
 AreLow-push n m (f ∷ prices) e is low here (suc k) = AreLow-push n m prices e is (λ j. low (suc j)) here k
 
-pub ArePrices-more : (weighing : Weighing) (nodes : List SheetNode) (k : ℕ) (found more : List Energy) (node : SheetNode) (e : Energy) → ArePrices weighing nodes k found
-    → slice_get nodes k ≡ Some node → more ≡ found ++ e ∷ [] → price_of e.parts ≡ price_of_node weighing (prices_of found) node → IsAtMost (price_of e.parts) (limit (length found + 2))
+pub ArePrices-more : (weighing : Weighing) (nodes : List SheetNode) (k : ℕ) (found more : List Energy) (node : SheetNode) (e : Energy)
+    → ArePrices weighing nodes k found
+    → slice_get nodes k ≡ Some node → more ≡ found ++ e ∷ [] → price_of e.parts ≡ price_of_node weighing (prices_of found) node
+    → IsAtMost (price_of e.parts) (limit (length found + 2))
     → ArePrices weighing nodes (k + 1) more
 ArePrices-more weighing nodes k found more node e so_far at grown costs low = record {
   count = ap length grown ∙ length_push found e ∙ ap (λ n. n + 1) so_far.count;
-  costs = listed ∙ ap (λ es. es ++ price_of e.parts ∷ []) so_far.costs ∙ ap (λ f. map (price weighing) (formulas_of front) ++ f ∷ []) (costs ∙ ap (λ es. price_of_node weighing es node) so_far.costs)
+  costs = listed ∙ ap (λ es. es ++ price_of e.parts ∷ []) so_far.costs
+      ∙ ap (λ f. map (price weighing) (formulas_of front) ++ f ∷ []) (costs ∙ ap (λ es. price_of_node weighing es node) so_far.costs)
       ∙ sym (prices-push weighing front node) ∙ ap (λ nodes. map (price weighing) (formulas_of nodes)) (sym longer);
   low = rw listed (AreLow-push k (k + 1 + 1) (prices_of found) (price_of e.parts) (omega arith) so_far.low (rw (← ends) low));
 }

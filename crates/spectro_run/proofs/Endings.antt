@@ -52,19 +52,19 @@ pub answered : {T : Type 0} (told : Option Texts) (asked command : Command) (tex
     → IsAnswered told (Some asked) ShelfFailed OutFailed status old new
 answered told asked command text ShelfFailed OutFailed (Ok value) status old new same prepared finished stopped cause = subst
     (λ asked. IsAnswered told (Some asked) ShelfFailed OutFailed status old new) (sym same) (record {
-  held = prepared.held;
-  are = prepared.are;
-  ends = ends-written (outcome_of (Some command) prepared.held) ShelfFailed OutFailed (text value) status old new prepared.ends cause finished;
-})
+      held = prepared.held;
+      are = prepared.are;
+      ends = ends-written (outcome_of (Some command) prepared.held) ShelfFailed OutFailed (text value) status old new prepared.ends cause finished;
+    })
 answered told asked command text ShelfFailed OutFailed (Err stop) status old new same prepared finished stopped cause = subst
     (λ asked. IsAnswered told (Some asked) ShelfFailed OutFailed status old new) (sym same) (record {
-  held = prepared.held;
-  are = prepared.are;
-  ends =
-      subst (λ status. Ends (outcome_of (Some command) prepared.held) ShelfFailed OutFailed status old new) (sym stopped.0)
-      (subst (Ends (outcome_of (Some command) prepared.held) ShelfFailed OutFailed stop old) (sym stopped.1)
+      held = prepared.held;
+      are = prepared.are;
+      ends =
+          subst (λ status. Ends (outcome_of (Some command) prepared.held) ShelfFailed OutFailed status old new) (sym stopped.0)
+          (subst (Ends (outcome_of (Some command) prepared.held) ShelfFailed OutFailed stop old) (sym stopped.1)
           (ends-stopped (outcome_of (Some command) prepared.held) ShelfFailed OutFailed stop old prepared.ends));
-})
+    })
 
 -- what was not prepared stops the run
 pub prepared-stops : {T : Type 0} (told : Option Texts) (asked : Command) (text : T → List ℕ) (ShelfFailed : Type 0) (result : Result T Status)

@@ -74,8 +74,8 @@ module _ (one_system : systems.EachTextHasAtMostOneSystem) (one_fault : systems.
   system-one which =
       file-one _ _ one_system
       (λ text one other first second. first.2
-          ∙ ap (λ (fault : AutFault). BadText (record { which = which; at = fault.line; kind = kinds.Aut fault.kind }))
-          (one_fault text first.0 second.0 first.1 second.1) ∙ sym second.2)
+      ∙ ap (λ (fault : AutFault). BadText (record { which = which; at = fault.line; kind = kinds.Aut fault.kind }))
+      (one_fault text first.0 second.0 first.1 second.1) ∙ sym second.2)
       (λ text status system refuses is. no_fault text system refuses.0 is refuses.1)
 
 module _ (one_formula : formulas.EachTextHasAtMostOneFormula) (one_fault : formulas.EachTextHasAtMostOneFirstFault)
@@ -85,8 +85,8 @@ module _ (one_formula : formulas.EachTextHasAtMostOneFormula) (one_fault : formu
     value = one_formula word;
     refusal =
         λ one other first second. first.2
-            ∙ ap (λ (fault : TextFault). BadText (record { which = FormulaText; at = fault.at; kind = kinds.Formula fault.kind }))
-            (one_fault word first.0 second.0 first.1 second.1)
+        ∙ ap (λ (fault : TextFault). BadText (record { which = FormulaText; at = fault.at; kind = kinds.Formula fault.kind }))
+        (one_fault word first.0 second.0 first.1 second.1)
         ∙ sym second.2;
     apart = λ status formula refuses is. no_fault word formula refuses.0 is refuses.1;
   }
@@ -102,8 +102,8 @@ module _ (one_weighing : weightings.EachTextHasAtMostOneWeighing) (one_fault : w
   weighing-one (Some name) held =
       file-one _ _ one_weighing
       (λ text one other first second. first.2
-          ∙ ap (λ (fault : WeightFault). BadText (record { which = Weights; at = fault.line; kind = kinds.Weights fault.kind }))
-          (one_fault text first.0 second.0 first.1 second.1) ∙ sym second.2)
+      ∙ ap (λ (fault : WeightFault). BadText (record { which = Weights; at = fault.line; kind = kinds.Weights fault.kind }))
+      (one_fault text first.0 second.0 first.1 second.1) ∙ sym second.2)
       (λ text status weighing refuses is. no_fault text weighing refuses.0 is refuses.1) held
 
 -- ---- the commands
@@ -114,8 +114,11 @@ module _
     (pairs : (left right : System) (limit : ℕ) → EndsInOneWay (pairs_of left right limit))
   where
     command-one : (asked : Option Command) (held : Held) → IsAtMostOne (outcome_of asked held)
-    command-one None held = record { status = λ one other bytes more first second. first.0
-        ∙ sym second.0; bytes = λ one other bytes more first second. first.1 ∙ sym second.1 }
+    command-one None held = record {
+      status = λ one other bytes more first second. first.0
+          ∙ sym second.0;
+      bytes = λ one other bytes more first second. first.1 ∙ sym second.1;
+    }
     command-one (Some (eval word file weights)) held =
         after-one _ _ (system Left (held Left))
         (λ s _. after-one _ _ (formula word) (λ f _. after-one _ _ (weighing weights (held Weights)) (λ w _. after-one _ _ (truth-one s f)

@@ -30,7 +30,7 @@ pub reached_compared : (left right system : System) (first second : ℕ) (pairs 
     → AreReachedPairs system (start_pairs ((first, second) ∷ [])) pairs ≡ AreCompared left right pairs
 reached_compared left right system first second pairs joined same also =
     let starts : start_pairs ((first, second) ∷ []) ≡ compared left right ∷ [] = one_start first second
-        ∙ (λ i. record { state = same i; set = also i ∷ [] } ∷ []) in
+    ∙ (λ i. record { state = same i; set = also i ∷ [] } ∷ []) in
     λ i. AreReachedPairs (joined i) (starts i) pairs
 
 -- where each list of what is reached is past the limit, the comparison is

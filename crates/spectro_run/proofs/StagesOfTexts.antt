@@ -99,8 +99,12 @@ module _ (told : Option Texts) (name : Word) (before now : ℕ) where
     | inl memory ↦ record { held = (some-held told (Some name)).0; is = (some-held told (Some name)).1; ends = no_memory memory }
     | inr refusal ↦
         let held = text-held told name taken.bytes taken.read in
-        record { held = Some held.0; is = held.1; ends = refused (subst IsStop (sym refusal.2) tt)
-            (refusal-whole which held.0 taken.bytes status held.2 refusal) }
+        record {
+          held = Some held.0;
+          is = held.1;
+          ends = refused (subst IsStop (sym refusal.2) tt)
+              (refusal-whole which held.0 taken.bytes status held.2 refusal);
+        }
   ]
 
   -- the text was read, and is of a weighing or refused

@@ -18,7 +18,8 @@ pub record HasTakenSoFar (old new : Option (List ℕ)) (feed : Fed) (count : ℕ
   pub taken : HasTaken feed bytes
 
 pub taken_more : (old now new : Option (List ℕ)) (feed grown : Fed) (count added : ℕ) (piece : List ℕ) → HasTakenSoFar old now feed count
-    → Consumes now new piece → added ≡ length piece → ((taken : List ℕ) → HasTaken feed taken → HasTaken grown (taken ++ piece)) → HasTakenSoFar old new grown (count + added)
+    → Consumes now new piece → added ≡ length piece → ((taken : List ℕ) → HasTaken feed taken → HasTaken grown (taken ++ piece))
+    → HasTakenSoFar old new grown (count + added)
 taken_more old now new feed grown count added piece so_far more same grows = record {
   bytes = so_far.bytes ++ piece;
   front = Consumes-trans _ _ _ _ _ so_far.front more;
@@ -46,8 +47,12 @@ taken_whole old now new feed count so_far within none end =
     let counted = so_far.counted in
     record {
       bytes = so_far.bytes;
-      read = record { front = subst (Consumes old new) (append-nil so_far.bytes)
-          (Consumes-trans _ _ _ _ _ so_far.front none); within = omega arith; end = λ less. end };
+      read = record {
+        front = subst (Consumes old new) (append-nil so_far.bytes)
+            (Consumes-trans _ _ _ _ _ so_far.front none);
+        within = omega arith;
+        end = λ less. end;
+      };
       taken = so_far.taken;
     }
 

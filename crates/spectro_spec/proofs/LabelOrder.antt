@@ -34,7 +34,8 @@ less_from Greater e = absurd (true≢false (sym e))
 pub before-chain : (first second third : List ℕ) → is_before_text first second ≡ true → is_before_text second third ≡ true → is_before_text first third ≡ true
 before-chain first second third one two =
     before-is first third ∙ ap is_lt (nat_list_cmp_total.trans first second third
-    (less_from (slice_cmp nat_cmp first second) (sym (before-is first second) ∙ one)) (less_from (slice_cmp nat_cmp second third) (sym (before-is second third) ∙ two)))
+    (less_from (slice_cmp nat_cmp first second) (sym (before-is first second) ∙ one))
+    (less_from (slice_cmp nat_cmp second third) (sym (before-is second third) ∙ two)))
 
 not_less : (n : ℕ) → nat_lt n n ≡ false
 not_less n = grind arith
@@ -52,7 +53,8 @@ before-not_itself (n ∷ ns) = go (nat_lt n n) (n == n) (not_less n) (before-not
 pub before-neither : (text other : List ℕ) → is_before_text text other ≡ false → is_before_text other text ≡ false → text ≡ other
 before-neither text other one two =
     slice_cmp-IsAntisymmetric nat_cmp-IsAntisymmetric text other
-    (go (slice_cmp nat_cmp text other) (slice_cmp nat_cmp other text) (nat_list_cmp_total.antisymm text other) (sym (before-is text other) ∙ one) (sym (before-is other text) ∙ two))
+    (go (slice_cmp nat_cmp text other) (slice_cmp nat_cmp other text) (nat_list_cmp_total.antisymm text other) (sym (before-is text other) ∙ one)
+    (sym (before-is other text) ∙ two))
   where
     go : (order turned : Ordering) → order ≡ ordering_reverse turned → is_lt order ≡ false → is_lt turned ≡ false → order ≡ Equal
     go Less turned e is_not none = absurd (true≢false is_not)
@@ -73,10 +75,12 @@ before-lower first later text up before = go (is_before_text first text) (is_bef
 -- ---- what the labels of a state are
 Contains-placed_label_cases : (label : Label) (others : List Label) (x : Label) → Contains (placed_label label others) x → (label ≡ x) ⊎ Contains others x
 Contains-placed_label_cases label [] x member = Contains-cases label [] x member
-Contains-placed_label_cases label (other ∷ others) x member = go (is_before_text label other) (bytes_eq label other) (Contains-placed_label_cases label others x) member
+Contains-placed_label_cases label (other ∷ others) x member = go (is_before_text label other) (bytes_eq label other)
+    (Contains-placed_label_cases label others x) member
   where
     go : (before same : Bool) → (Contains (placed_label label others) x → (label ≡ x) ⊎ Contains others x)
-        → Contains (cond before (label ∷ other ∷ others) (cond same (other ∷ others) (other ∷ placed_label label others))) x → (label ≡ x) ⊎ Contains (other ∷ others) x
+        → Contains (cond before (label ∷ other ∷ others) (cond same (other ∷ others) (other ∷ placed_label label others))) x
+        → (label ≡ x) ⊎ Contains (other ∷ others) x
     go true same rest h = Contains-cases label (other ∷ others) x h
     go false true rest h = inr h
     go false false rest h = elim (Contains-cases other (placed_label label others) x h) [
@@ -89,7 +93,8 @@ Contains-placed_label label [] x (inl e) = Contains-first_is label [] x e
 Contains-placed_label label [] x (inr h) = absurd (Contains-none x h)
 Contains-placed_label label (other ∷ others) x h = go (is_before_text label other) (bytes_eq label other) refl (Contains-placed_label label others x) h
   where
-    go : (before same : Bool) → bytes_eq label other ≡ same → ((label ≡ x) ⊎ Contains others x → Contains (placed_label label others) x) → (label ≡ x) ⊎ Contains (other ∷ others) x
+    go : (before same : Bool) → bytes_eq label other ≡ same → ((label ≡ x) ⊎ Contains others x → Contains (placed_label label others) x)
+        → (label ≡ x) ⊎ Contains (other ∷ others) x
         → Contains (cond before (label ∷ other ∷ others) (cond same (other ∷ others) (other ∷ placed_label label others))) x
     go true same is rest (inl e) = Contains-first_is label (other ∷ others) x e
     go true same is rest (inr g) = Contains-later label (other ∷ others) x g
@@ -131,15 +136,19 @@ Contains-labels_from_has (step ∷ steps) p label member = go (step.source == p)
     ]
     go false rest h = rest h
 
-pub Contains-labels_from : (steps : List Step) (p : ℕ) (label : Label) (t : ℕ) → Contains steps (record { source = p; label = label; target = t }) → Contains (labels_from steps p) label
+pub Contains-labels_from : (steps : List Step) (p : ℕ) (label : Label) (t : ℕ) → Contains steps (record { source = p; label = label; target = t })
+    → Contains (labels_from steps p) label
 Contains-labels_from steps p label t member =
     let step : Step = record { source = p; label = label; target = t } in
     Contains-labels_from_has steps p label
-    (Contains-map (λ (step : Step). step.label) (filter (λ (step : Step). step.source == p) steps) step (Contains-filter (λ (step : Step). step.source == p) steps step member (eq-eqb p p refl)))
+    (Contains-map (λ (step : Step). step.label) (filter (λ (step : Step). step.source == p) steps) step
+    (Contains-filter (λ (step : Step). step.source == p) steps step member (eq-eqb p p refl)))
 
-pub labels_from-steps : (steps : List Step) (p : ℕ) (label : Label) → Contains (labels_from steps p) label → (t : ℕ) × Contains steps (record { source = p; label = label; target = t })
+pub labels_from-steps : (steps : List Step) (p : ℕ) (label : Label) → Contains (labels_from steps p) label
+    → (t : ℕ) × Contains steps (record { source = p; label = label; target = t })
 labels_from-steps steps p label member =
-    let found = Contains-map_cases (λ (step : Step). step.label) (filter (λ (step : Step). step.source == p) steps) label (Contains-labels_from_cases steps p label member) in
+    let found = Contains-map_cases (λ (step : Step). step.label) (filter (λ (step : Step). step.source == p) steps) label
+    (Contains-labels_from_cases steps p label member) in
     let kept = Contains-filter_cases (λ (step : Step). step.source == p) steps found.0 found.1 in
     let from : found.0.source ≡ p = eqb-true found.0.source p kept.1 in
     (found.0.target, subst (λ x. Contains steps x) (λ i. record { source = from i; label = found.2 i; target = found.0.target }) kept.0)
@@ -154,7 +163,8 @@ abbrev pub AreInOrder : List Label → Type 0
 AreInOrder [] = Unit {0}
 AreInOrder (label ∷ labels) = IsBeforeFirst label labels × AreInOrder labels
 
-placed_label-is_above : (low label : Label) (others : List Label) → is_before_text low label ≡ true → IsBeforeFirst low others → IsBeforeFirst low (placed_label label others)
+placed_label-is_above : (low label : Label) (others : List Label) → is_before_text low label ≡ true → IsBeforeFirst low others
+    → IsBeforeFirst low (placed_label label others)
 placed_label-is_above low label [] below h = below
 placed_label-is_above low label (other ∷ others) below h = go (is_before_text label other) (bytes_eq label other)
   where
@@ -210,7 +220,8 @@ later_member label labels x before member = elim (Contains-cases label labels x 
   | inr h ↦ h
 ]
 
-same_labels : (labels others : List Label) → AreInOrder labels → AreInOrder others → ((x : Label) → Contains labels x → Contains others x) → ((x : Label) → Contains others x → Contains labels x) → labels ≡ others
+same_labels : (labels others : List Label) → AreInOrder labels → AreInOrder others → ((x : Label) → Contains labels x → Contains others x)
+    → ((x : Label) → Contains others x → Contains labels x) → labels ≡ others
 same_labels [] [] left right there back = refl
 same_labels [] (other ∷ others) left right there back = absurd (Contains-none other (back other (Contains-first other others)))
 same_labels (label ∷ labels) [] left right there back = absurd (Contains-none label (there label (Contains-first label labels)))
@@ -226,7 +237,8 @@ same_labels (label ∷ labels) (other ∷ others) left right there back =
     λ i. same i ∷ rest i
 
 -- labels in order with just the labels of the steps from the state are its labels
-pub labels_from_is : (labels : List Label) (steps : List Step) (p : ℕ) → AreInOrder labels → ((x : Label) → Contains labels x → Contains (labels_by_step steps p) x)
+pub labels_from_is : (labels : List Label) (steps : List Step) (p : ℕ) → AreInOrder labels
+    → ((x : Label) → Contains labels x → Contains (labels_by_step steps p) x)
     → ((x : Label) → Contains (labels_by_step steps p) x → Contains labels x) → labels ≡ labels_from steps p
 labels_from_is labels steps p up there back = same_labels labels (labels_from steps p) up (labels_from-in_order steps p)
     (λ x member. Contains-labels_from_has steps p x (there x member))

@@ -65,9 +65,11 @@ covers-enabled formula d = elim (observes_or_same formula) [
 AreLeastPrices-one_step : AreLeastPrices [] one_step 0 (1 ∷ []) (six 1 1 0 0 0 0 ∷ [])
 AreLeastPrices-one_step = record {
   rises = ((λ f member. absurd (Contains-none f member)), tt);
-  prices = λ e member. only_member (λ f. (formula : Formula) × Distinguishes one_step 0 (1 ∷ []) formula × (price [] formula ≡ f)) (six 1 1 0 0 0 0) e (enabled a, Distinguishes-enabled, refl) member;
+  prices = λ e member. only_member (λ f. (formula : Formula) × Distinguishes one_step 0 (1 ∷ []) formula
+      × (price [] formula ≡ f)) (six 1 1 0 0 0 0) e (enabled a, Distinguishes-enabled, refl) member;
   covers = covers-enabled;
-  apart = λ e f e_member f_member h. only_member (λ g. g ≡ f) (six 1 1 0 0 0 0) e (only_member (λ g. six 1 1 0 0 0 0 ≡ g) (six 1 1 0 0 0 0) f refl f_member) e_member;
+  apart = λ e f e_member f_member h. only_member (λ g. g ≡ f) (six 1 1 0 0 0 0) e
+      (only_member (λ g. six 1 1 0 0 0 0 ≡ g) (six 1 1 0 0 0 0) f refl f_member) e_member;
 }
 
 -- nothing is at the same time true and false at one state
@@ -82,7 +84,8 @@ AreLeastPrices-itself = record {
 -- from no states at all each formula that is true distinguishes
 not_AreLeastPrices-none : ¬ AreLeastPrices [] one_step 0 [] []
 not_AreLeastPrices-none least =
-    let covered : Covers [] (six 0 1 0 0 0 0) = least.covers (all no_clauses) (record { satisfied = tt; refuted = λ q member. absurd (Contains-none q member) }) in
+    let covered : Covers [] (six 0 1 0 0 0 0) = least.covers (all no_clauses)
+    (record { satisfied = tt; refuted = λ q member. absurd (Contains-none q member) }) in
     Contains-none covered.0 covered.1
 
 -- a price that is not least may not stand beside a least one
@@ -94,7 +97,8 @@ not_AreLeastPrices-greater least =
 -- each member stands for a formula
 not_AreLeastPrices-lower : ¬ AreLeastPrices [] one_step 0 (1 ∷ []) (six 0 0 0 0 0 0 ∷ [])
 not_AreLeastPrices-lower least =
-    let made : (formula : Formula) × Distinguishes one_step 0 (1 ∷ []) formula × (price [] formula ≡ six 0 0 0 0 0 0) = least.prices (six 0 0 0 0 0 0) (0, omega arith, refl) in
+    let made : (formula : Formula) × Distinguishes one_step 0 (1 ∷ []) formula
+    × (price [] formula ≡ six 0 0 0 0 0 0) = least.prices (six 0 0 0 0 0 0) (0, omega arith, refl) in
     omega (arith, conjunctions-at_least_one [] made.0, ap (λ (e : Price). e.conjunctions) made.2)
 
 -- and stands once

@@ -35,12 +35,14 @@ only_member P y x here member = any_member P (y ∷ []) x (here, tt) member
 keeps : (s : ℕ) (label : Label) → (list_any (λ q. q == s) (s ∷ []) && bytes_eq label label) ≡ true
 keeps s label = and_from (s == s || false) (bytes_eq label label) (rw (eq-eqb s s refl)) ((bytes_eq-Decides label label).1 refl)
 
-later_target : (kept : Bool) (x : Step) (steps : List Step) (t : ℕ) → Contains (map (λ y. y.target) steps) t → Contains (map (λ y. y.target) (cond kept (x ∷ steps) steps)) t
+later_target : (kept : Bool) (x : Step) (steps : List Step) (t : ℕ) → Contains (map (λ y. y.target) steps) t
+    → Contains (map (λ y. y.target) (cond kept (x ∷ steps) steps)) t
 later_target true x steps t member = Contains-later x.target (map (λ y. y.target) steps) t member
 later_target false x steps t member = member
 
 -- where a step leads is among the targets that are computed from its source
-pub targets : (steps : List Step) (s : ℕ) (label : Label) (t : ℕ) → Contains steps (record { source = s; label = label; target = t }) → Contains (targets_of steps (s ∷ []) label) t
+pub targets : (steps : List Step) (s : ℕ) (label : Label) (t : ℕ) → Contains steps (record { source = s; label = label; target = t })
+    → Contains (targets_of steps (s ∷ []) label) t
 targets [] s label t member = absurd (Contains-none _ member)
 targets (x ∷ steps) s label t member = elim (Contains-cases x steps _ member) [
   | inl e ↦ subst (λ y. Contains (targets_of (y ∷ steps) (s ∷ []) label) t) (sym e) (rw (keeps s label) (Contains-first t _))

@@ -40,7 +40,8 @@ Contains-flat_map_cases f (x ∷ xs) y member = elim (Contains-append_cases (f x
 
 pub Contains-filter : {X : Type 0} (test : X → Bool) (xs : List X) (x : X) → Contains xs x → test x ≡ true → Contains (filter test xs) x
 Contains-filter test [] x member passes = absurd (Contains-none x member)
-Contains-filter test (y ∷ xs) x member passes = go (test y) (λ e. subst (λ z. test z ≡ true) (sym e) passes) (Contains-filter test xs x) (Contains-cases y xs x member)
+Contains-filter test (y ∷ xs) x member passes = go (test y) (λ e. subst (λ z. test z ≡ true) (sym e) passes) (Contains-filter test xs x)
+    (Contains-cases y xs x member)
   where
     go : (kept : Bool) → (y ≡ x → kept ≡ true) → (Contains xs x → test x ≡ true → Contains (filter test xs) x) → (y ≡ x) ⊎ Contains xs x
         → Contains (cond kept (y ∷ filter test xs) (filter test xs)) x

@@ -57,21 +57,26 @@ not_Covers-none (e, member, h) = Contains-none e member
 
 -- each has a part that is too great
 not_Covers-two : ¬ Covers (six 1 2 0 0 1 1 ∷ six 2 2 1 1 0 0 ∷ []) (six 1 2 1 1 0 0)
-not_Covers-two (e, member, h) = any_member (λ f. ¬ IsAtMost f (six 1 2 1 1 0 0)) (six 1 2 0 0 1 1 ∷ six 2 2 1 1 0 0 ∷ []) e ((λ g. omega arith), ((λ g. omega arith), tt)) member h
+not_Covers-two (e, member, h) = any_member (λ f. ¬ IsAtMost f (six 1 2 1 1 0 0)) (six 1 2 0 0 1 1 ∷ six 2 2 1 1 0 0 ∷ []) e
+    ((λ g. omega arith), ((λ g. omega arith), tt)) member h
 
 -- the least prices from the late choice to the early one, in their order
 abbrev two : List Price
 two = six 2 2 1 1 0 0 ∷ six 2 3 0 0 1 2 ∷ []
 
 Rises-two : Rises two
-Rises-two = ((λ f member. only_member (λ g. ComesBefore (six 2 2 1 1 0 0) g) (six 2 3 0 0 1 2) f (inr (refl, inl (omega arith))) member), ((λ f member. absurd (Contains-none f member)), tt))
+Rises-two = (
+  (λ f member. only_member (λ g. ComesBefore (six 2 2 1 1 0 0) g) (six 2 3 0 0 1 2) f (inr (refl, inl (omega arith))) member),
+  ((λ f member. absurd (Contains-none f member)), tt),
+)
 
 not_Rises-repeat : ¬ Rises (six 1 1 0 0 0 0 ∷ six 1 1 0 0 0 0 ∷ [])
 not_Rises-repeat (first, rest) = let h : ComesBefore (six 1 1 0 0 0 0) (six 1 1 0 0 0 0) = first (six 1 1 0 0 0 0) (Contains-first _ []) in grind arith
 
 -- each member comes before the later ones, not the first alone
 not_Rises-third : ¬ Rises (six 2 1 0 0 0 0 ∷ six 3 1 0 0 0 0 ∷ six 1 1 0 0 0 0 ∷ [])
-not_Rises-third (first, (second, rest)) = let h : ComesBefore (six 3 1 0 0 0 0) (six 1 1 0 0 0 0) = second (six 1 1 0 0 0 0) (Contains-first _ []) in grind arith
+not_Rises-third (first, (second, rest)) = let h : ComesBefore (six 3 1 0 0 0 0) (six 1 1 0 0 0 0) = second (six 1 1 0 0 0 0)
+    (Contains-first _ []) in grind arith
 
 AreApart-two : AreApart two
 AreApart-two e f e_member f_member h =

@@ -44,7 +44,12 @@ late_and_early = record {
 
 -- steps in no order, one of them twice
 abbrev pub mixed : System
-mixed = record { states = 4; initial = 0; steps = step 0 b 3 ∷ step 0 (codes "ab") 0 ∷ step 1 c 2 ∷ step 0 b 1 ∷ step 0 a 2 ∷ step 0 b 3 ∷ step 2 b 2 ∷ step 1 b 0 ∷ [] }
+mixed = record {
+  states = 4;
+  initial = 0;
+  steps = step 0 b 3 ∷ step 0
+      (codes "ab") 0 ∷ step 1 c 2 ∷ step 0 b 1 ∷ step 0 a 2 ∷ step 0 b 3 ∷ step 2 b 2 ∷ step 1 b 0 ∷ [];
+}
 
 -- the formula that is true everywhere
 abbrev pub true_everywhere : Formula

@@ -7,11 +7,14 @@ use Rattle.spectro_spec.specs.Notion.{Bound, IsWithin}
 use Rattle.spectro_spec.specs.Spectrum.{enabledness, traces, failures, revivals, readiness, failure_traces, ready_traces, impossible_futures, possible_futures, simulation, ready_simulation, two_nested_simulation, bisimulation, notions}
 use Rattle.spectro_spec.proofs.Samples.{six, seven}
 
-names-notions : map (λ notion. notion.name) notions ≡ codes "enabledness" ∷ codes "traces" ∷ codes "failures" ∷ codes "revivals" ∷ codes "readiness" ∷ codes "failure-traces" ∷ codes "ready-traces" ∷ codes "impossible-futures" ∷ codes "possible-futures" ∷ codes "simulation" ∷ codes "ready-simulation" ∷ codes "two-nested-simulation" ∷ codes "bisimulation" ∷ []
+names-notions : map (λ notion. notion.name) notions ≡ codes "enabledness" ∷ codes "traces" ∷ codes "failures" ∷ codes "revivals" ∷ codes "readiness" ∷ codes
+    "failure-traces" ∷ codes "ready-traces" ∷ codes "impossible-futures" ∷ codes "possible-futures" ∷ codes "simulation" ∷ codes "ready-simulation" ∷ codes
+    "two-nested-simulation" ∷ codes "bisimulation" ∷ []
 names-notions = refl
 
 -- in the order of the names
-notions-in_order : notions ≡ enabledness ∷ traces ∷ failures ∷ revivals ∷ readiness ∷ failure_traces ∷ ready_traces ∷ impossible_futures ∷ possible_futures ∷ simulation ∷ ready_simulation ∷ two_nested_simulation ∷ bisimulation ∷ []
+notions-in_order : notions ≡ enabledness ∷ traces ∷ failures ∷ revivals ∷ readiness ∷ failure_traces ∷ ready_traces ∷ impossible_futures ∷ possible_futures
+    ∷ simulation ∷ ready_simulation ∷ two_nested_simulation ∷ bisimulation ∷ []
 notions-in_order = refl
 
 -- the first price is within the bound, and none of the others
@@ -22,8 +25,12 @@ IsLimit bound e others = IsWithin e bound × AllByRecursion (λ f. ¬ IsWithin f
 IsWithin-weighted_depth : IsWithin (seven 1 1 0 0 0 0 255) enabledness.bound
 IsWithin-weighted_depth = search rules
 
-enabledness-limit : IsLimit enabledness.bound (six 1 1 0 0 0 0) (six 2 1 0 0 0 0 ∷ six 1 2 0 0 0 0 ∷ six 1 1 1 0 0 0 ∷ six 1 1 0 1 0 0 ∷ six 1 1 0 0 1 0 ∷ six 1 1 0 0 0 1 ∷ [])
-enabledness-limit = (search rules, ((λ h. omega arith), ((λ h. omega arith), ((λ h. omega arith), ((λ h. omega arith), ((λ h. omega arith), ((λ h. omega arith), tt)))))))
+enabledness-limit : IsLimit enabledness.bound (six 1 1 0 0 0 0)
+    (six 2 1 0 0 0 0 ∷ six 1 2 0 0 0 0 ∷ six 1 1 1 0 0 0 ∷ six 1 1 0 1 0 0 ∷ six 1 1 0 0 1 0 ∷ six 1 1 0 0 0 1 ∷ [])
+enabledness-limit = (
+  search rules,
+  ((λ h. omega arith), ((λ h. omega arith), ((λ h. omega arith), ((λ h. omega arith), ((λ h. omega arith), ((λ h. omega arith), tt)))))),
+)
 
 traces-limit : IsLimit traces.bound (six 9 1 0 0 0 0) (six 9 2 0 0 0 0 ∷ six 9 1 1 0 0 0 ∷ six 9 1 0 1 0 0 ∷ six 9 1 0 0 1 0 ∷ six 9 1 0 0 0 1 ∷ [])
 traces-limit = (search rules, ((λ h. omega arith), ((λ h. omega arith), ((λ h. omega arith), ((λ h. omega arith), ((λ h. omega arith), tt))))))

@@ -31,7 +31,8 @@ Contains-targets_of : (steps : List Step) (qs : List ℕ) (label : Label) (q t :
 Contains-targets_of steps qs label q t member step =
     let x : Step = record { source = q; label = label; target = t } in
     let kept = Contains-filter (leads_from qs label) steps x step
-    (and_from (list_any (λ r. r == q) qs) (bytes_eq label label) (list_any-has (λ r. r == q) qs q member (eq-eqb q q refl)) ((bytes_eq-Decides label label).1 refl)) in
+    (and_from (list_any (λ r. r == q) qs) (bytes_eq label label) (list_any-has (λ r. r == q) qs q member (eq-eqb q q refl))
+    ((bytes_eq-Decides label label).1 refl)) in
     Contains-map (λ (y : Step). y.target) (filter (leads_from qs label) steps) x kept
 
 pub Contains-post : (system : System) (qs : List ℕ) (label : Label) (t : ℕ) → Contains (post system qs label) t
@@ -59,7 +60,8 @@ post-by_member system qs label = sym (rising_is (post system qs label) (flat_map
     (λ t member.
     let found = Contains-flat_map_cases (λ q. post system (q ∷ []) label) qs t member in
     let from = Contains-post system (found.0 ∷ []) label t found.2 in
-    let step : HasStep system found.0 label t = only_member (λ q. HasStep system q label t → HasStep system found.0 label t) found.0 from.0 (λ h. h) from.1 from.2 in
+    let step : HasStep system found.0 label t = only_member (λ q. HasStep system q label t
+    → HasStep system found.0 label t) found.0 from.0 (λ h. h) from.1 from.2 in
     post-has system qs label found.0 t found.1 step))
 
 -- they are states of the system

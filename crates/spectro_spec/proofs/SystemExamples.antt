@@ -80,7 +80,9 @@ join-late_and_early : join late early ≡ late_and_early
 join-late_and_early = refl
 
 -- the left's initial state stays, and its states shift all of the right's
-join-other_initial : join (record { states = 5; initial = 4; steps = step 4 b 0 ∷ [] }) (record { states = 3; initial = 2; steps = step 2 a 1 ∷ step 2 a 1 ∷ [] }) ≡ record { states = 8; initial = 4; steps = step 4 b 0 ∷ step 7 a 6 ∷ step 7 a 6 ∷ [] }
+join-other_initial : join (record { states = 5; initial = 4; steps = step 4 b 0 ∷ [] })
+    (record { states = 3; initial = 2; steps = step 2 a 1 ∷ step 2 a 1 ∷ [] }) ≡ record
+    { states = 8; initial = 4; steps = step 4 b 0 ∷ step 7 a 6 ∷ step 7 a 6 ∷ [] }
 join-other_initial = refl
 
 HasStep-one_step : HasStep one_step 0 a 1

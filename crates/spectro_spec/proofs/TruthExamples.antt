@@ -52,14 +52,16 @@ no_c_at_4 (t, h, f) = Contains-none t (targets late_and_early.steps 4 c t h)
 
 refuted-then_both : ¬ Satisfies late_and_early 3 then_both
 refuted-then_both (t, h, f) =
-    any_member (λ s. ¬ Satisfies late_and_early s (all (plus (enabled b) (plus (enabled c) no_clauses)))) (4 ∷ 5 ∷ []) t ((λ g. no_c_at_4 g.1.0), ((λ g. no_b_at_5 g.0), tt)) (targets late_and_early.steps 3 a t h) f
+    any_member (λ s. ¬ Satisfies late_and_early s (all (plus (enabled b) (plus (enabled c) no_clauses)))) (4 ∷ 5 ∷ []) t
+    ((λ g. no_c_at_4 g.1.0), ((λ g. no_b_at_5 g.0), tt)) (targets late_and_early.steps 3 a t h) f
 
 satisfied-then_both_by_negations : Satisfies late_and_early 0 then_both_by_negations
 satisfied-then_both_by_negations = (1, (0, omega arith, refl), ((λ g. g.0 (2, (1, omega arith, refl), tt)), ((λ g. g.0 (2, (2, omega arith, refl), tt)), tt)))
 
 refuted-then_both_by_negations : ¬ Satisfies late_and_early 3 then_both_by_negations
 refuted-then_both_by_negations (t, h, f) =
-    any_member (λ s. ¬ Satisfies late_and_early s (all (minus (disabled b) (minus (disabled c) no_clauses)))) (4 ∷ 5 ∷ []) t ((λ g. g.1.0 (no_c_at_4, tt)), ((λ g. g.0 (no_b_at_5, tt)), tt)) (targets late_and_early.steps 3 a t h) f
+    any_member (λ s. ¬ Satisfies late_and_early s (all (minus (disabled b) (minus (disabled c) no_clauses)))) (4 ∷ 5 ∷ []) t
+    ((λ g. g.1.0 (no_c_at_4, tt)), ((λ g. g.0 (no_b_at_5, tt)), tt)) (targets late_and_early.steps 3 a t h) f
 
 satisfied-then_not : Satisfies late_and_early 3 (then_not c)
 satisfied-then_not = (4, (3, omega arith, refl), (no_c_at_4, tt))

@@ -28,7 +28,8 @@ Covers-append es fs e (inl (f, member, below)) = (f, Contains-append_left es fs 
 Covers-append es fs e (inr (f, member, below)) = (f, Contains-append_right es fs f member, below)
 
 Covers-inverses_cases : (u : Update) (es : List Price) (e : Price) → Covers (map (inverse u) es) e → (f : Price) × Contains es f × IsAtMost (inverse u f) e
-Covers-inverses_cases u es e (g, member, below) = let made = Contains-map_cases (inverse u) es g member in (made.0, made.1, subst (λ x. IsAtMost x e) (sym made.2) below)
+Covers-inverses_cases u es e (g, member, below) = let made = Contains-map_cases (inverse u) es g member in
+    (made.0, made.1, subst (λ x. IsAtMost x e) (sym made.2) below)
 
 Covers-inverses : (u : Update) (es : List Price) (e : Price) → (f : Price) × Contains es f × IsAtMost (inverse u f) e → Covers (map (inverse u) es) e
 Covers-inverses u es e (f, member, below) = (inverse u f, Contains-map (inverse u) es f member, below)
@@ -51,8 +52,12 @@ each-choices [] e each = (zero_price, Contains-first zero_price [], omega arith)
 each-choices (fs ∷ lists) e each = go (each fs (Contains-first fs lists)) (each-choices lists e (λ es member. each es (Contains-later fs lists es member)))
   where
     go : Covers fs e → Covers (sups_of_choices lists) e → Covers (sups_of_choices (fs ∷ lists)) e
-    go (f, first, low) (g, later, below) =
-        (sup f g, Contains-flat_map (λ f. map (sup f) (sups_of_choices lists)) fs f (sup f g) first (Contains-map (sup f) (sups_of_choices lists) g later), omega arith)
+    go (f, first, low) (g, later, below) = (
+      sup f g,
+      Contains-flat_map (λ f. map (sup f) (sups_of_choices lists)) fs f (sup f g) first
+          (Contains-map (sup f) (sups_of_choices lists) g later),
+      omega arith,
+    )
 
 module _ (weighing : Weighing) (system : System) (table : Table) where
   -- clauses
@@ -67,7 +72,8 @@ module _ (weighing : Weighing) (system : System) (table : Table) where
     where
       go : (g : Price) × Contains (positive p q ++ negative (eqb p q) p q) g × IsAtMost (inverse to_other g) e → AffordsClause (members_of table) p q e
       go (g, member, below) = elim (Contains-append_cases (positive p q) (negative (eqb p q) p q) g member) [
-        | inl h ↦ let made = Contains-map_cases (inverse to_positive) (table p (q ∷ [])) g h in inl (made.0, made.1, subst (λ x. IsAtMost (inverse to_other x) e) (sym made.2) below)
+        | inl h ↦ let made = Contains-map_cases (inverse to_positive) (table p (q ∷ [])) g h in inl
+            (made.0, made.1, subst (λ x. IsAtMost (inverse to_other x) e) (sym made.2) below)
         | inr h ↦ by_test (λ b. Contains (negative b p q) g → AffordsClause (members_of table) p q e) (eqb p q) (Decides-eqb p q)
             (λ _ none. absurd (Contains-none g none))
             (λ apart k. let made = Contains-map_cases (inverse to_negative) (table q (p ∷ [])) g k in
@@ -94,7 +100,8 @@ module _ (weighing : Weighing) (system : System) (table : Table) where
   subset_prices-affords : (p : ℕ) (left : List ℕ) (e : Price) → ((es : List Price) → Contains (subset_prices table p left) es → Covers es e)
       → left ≢ [] → (f : Price) × Contains (table p left) f × IsAtMost (inverse to_deepest f) e
   subset_prices-affords p [] e each some = absurd (some refl)
-  subset_prices-affords p (q ∷ qs) e each some = Covers-inverses_cases to_deepest (table p (q ∷ qs)) e (each (map (inverse to_deepest) (table p (q ∷ qs))) (Contains-first _ []))
+  subset_prices-affords p (q ∷ qs) e each some = Covers-inverses_cases to_deepest (table p (q ∷ qs)) e
+      (each (map (inverse to_deepest) (table p (q ∷ qs))) (Contains-first _ []))
 
   affords-subset_prices : (p : ℕ) (left : List ℕ) (e : Price) → (left ≢ [] → (f : Price) × Contains (table p left) f × IsAtMost (inverse to_deepest f) e)
       → (es : List Price) → Contains (subset_prices table p left) es → Covers es e
@@ -105,8 +112,10 @@ module _ (weighing : Weighing) (system : System) (table : Table) where
   ]
 
   -- splits
-  split_prices-affords : (p : ℕ) (qs : List ℕ) (e : Price) → Covers (split_prices table p qs) e → (b : Price) × AffordsSplit (members_of table) p qs b × IsAtMost (inverse conjoin b) e
-  split_prices-affords p qs e (g, member, below) = go (Contains-flat_map_cases (λ d. map (inverse conjoin) (sups_of_choices (lists_to_choose_from table p d))) (divisions qs) g member)
+  split_prices-affords : (p : ℕ) (qs : List ℕ) (e : Price) → Covers (split_prices table p qs) e
+      → (b : Price) × AffordsSplit (members_of table) p qs b × IsAtMost (inverse conjoin b) e
+  split_prices-affords p qs e (g, member, below) = go
+      (Contains-flat_map_cases (λ d. map (inverse conjoin) (sups_of_choices (lists_to_choose_from table p d))) (divisions qs) g member)
     where
       go : (d : Division) × Contains (divisions qs) d × Contains (map (inverse conjoin) (sups_of_choices (lists_to_choose_from table p d))) g
           → (b : Price) × AffordsSplit (members_of table) p qs b × IsAtMost (inverse conjoin b) e
@@ -118,19 +127,23 @@ module _ (weighing : Weighing) (system : System) (table : Table) where
               d.left,
               d.right,
               divisions-Divides qs d inside,
-              subset_prices-affords p d.left chosen.0 (λ es h. each es (Contains-append_left (subset_prices table p d.left) (map (clause_prices table p) d.right) es h)),
+              subset_prices-affords p d.left chosen.0
+                  (λ es h. each es (Contains-append_left (subset_prices table p d.left) (map (clause_prices table p) d.right) es h)),
               λ q h. clause_prices-affords p q chosen.0 (each (clause_prices table p q)
-                  (Contains-append_right (subset_prices table p d.left) (map (clause_prices table p) d.right) (clause_prices table p q) (Contains-map (clause_prices table p) d.right q h))),
+                  (Contains-append_right (subset_prices table p d.left) (map (clause_prices table p) d.right) (clause_prices table p q)
+                  (Contains-map (clause_prices table p) d.right q h))),
             ),
             subst (λ x. IsAtMost x e) (sym chosen.2) below,
           )
 
-  affords-split_prices : (p : ℕ) (qs : List ℕ) (b e : Price) → AffordsSplit (members_of table) p qs b → IsAtMost (inverse conjoin b) e → Covers (split_prices table p qs) e
+  affords-split_prices : (p : ℕ) (qs : List ℕ) (b e : Price) → AffordsSplit (members_of table) p qs b → IsAtMost (inverse conjoin b) e
+      → Covers (split_prices table p qs) e
   affords-split_prices p qs b e (left, right, divided, deepest, clauses) below =
       let d : Division = record { left = left; right = right } in
       let chosen = each-choices (lists_to_choose_from table p d) b each in (
         inverse conjoin chosen.0,
-        Contains-flat_map (λ d. map (inverse conjoin) (sups_of_choices (lists_to_choose_from table p d))) (divisions qs) d (inverse conjoin chosen.0) (Contains-divisions divided)
+        Contains-flat_map (λ d. map (inverse conjoin) (sups_of_choices (lists_to_choose_from table p d))) (divisions qs) d (inverse conjoin chosen.0)
+            (Contains-divisions divided)
             (Contains-map (inverse conjoin) (sups_of_choices (lists_to_choose_from table p d)) chosen.0 chosen.1),
         IsAtMost-trans (inverse-monotone conjoin chosen.0 b chosen.2) below,
       )
@@ -138,7 +151,8 @@ module _ (weighing : Weighing) (system : System) (table : Table) where
       each : (es : List Price) → Contains (subset_prices table p left ++ map (clause_prices table p) right) es → Covers es b
       each es member = elim (Contains-append_cases (subset_prices table p left) (map (clause_prices table p) right) es member) [
         | inl h ↦ affords-subset_prices p left b deepest es h
-        | inr h ↦ let made = Contains-map_cases (clause_prices table p) right es h in subst (λ x. Covers x b) made.2 (affords-clause_prices p made.0 b (clauses made.0 made.1))
+        | inr h ↦ let made = Contains-map_cases (clause_prices table p) right es h in subst (λ x. Covers x b) made.2
+            (affords-clause_prices p made.0 b (clauses made.0 made.1))
       ]
 
   -- observations: a step from p, and a price that is listed where it leads
@@ -150,12 +164,15 @@ module _ (weighing : Weighing) (system : System) (table : Table) where
   after step qs = map (inverse (observe (weight_of weighing step.label))) (table step.target (post system qs step.label))
 
   abbrev after_or : Bool → Step → List Step → ℕ → List ℕ → List Price
-  after_or here step steps p qs = cond here (after step qs ++ observation_prices weighing system table steps p qs) (observation_prices weighing system table steps p qs)
+  after_or here step steps p qs = cond here (after step qs ++ observation_prices weighing system table steps p qs)
+      (observation_prices weighing system table steps p qs)
 
   later_step : (step : Step) (steps : List Step) (p : ℕ) (qs : List ℕ) (e : Price) → AffordsStep steps p qs e → AffordsStep (step ∷ steps) p qs e
-  later_step step steps p qs e (label, t, member, listed) = (label, t, Contains-later step steps (record { source = p; label = label; target = t }) member, listed)
+  later_step step steps p qs e (label, t, member, listed) =
+      (label, t, Contains-later step steps (record { source = p; label = label; target = t }) member, listed)
 
-  observation_prices-affords : (steps : List Step) (p : ℕ) (qs : List ℕ) (e : Price) → Covers (observation_prices weighing system table steps p qs) e → AffordsStep steps p qs e
+  observation_prices-affords : (steps : List Step) (p : ℕ) (qs : List ℕ) (e : Price) → Covers (observation_prices weighing system table steps p qs) e
+      → AffordsStep steps p qs e
   observation_prices-affords [] p qs e covered = absurd (Contains-none covered.0 covered.1)
   observation_prices-affords (step ∷ steps) p qs e covered =
       by_test (λ b. Covers (after_or b step steps p qs) e → AffordsStep (step ∷ steps) p qs e)
@@ -172,13 +189,16 @@ module _ (weighing : Weighing) (system : System) (table : Table) where
       (λ _ h. later_step step steps p qs e (observation_prices-affords steps p qs e h))
       covered
 
-  affords-observation_prices : (steps : List Step) (p : ℕ) (qs : List ℕ) (e : Price) → AffordsStep steps p qs e → Covers (observation_prices weighing system table steps p qs) e
+  affords-observation_prices : (steps : List Step) (p : ℕ) (qs : List ℕ) (e : Price) → AffordsStep steps p qs e
+      → Covers (observation_prices weighing system table steps p qs) e
   affords-observation_prices [] p qs e (label, t, member, listed) = absurd (Contains-none _ member)
   affords-observation_prices (step ∷ steps) p qs e (label, t, member, listed) =
       by_test (λ b. Covers (after_or b step steps p qs) e) (eqb step.source p) (Decides-eqb step.source p)
-      (λ _. Covers-append (after step qs) (observation_prices weighing system table steps p qs) e (elim (Contains-cases step steps (record { source = p; label = label; target = t }) member) [
+      (λ _. Covers-append (after step qs) (observation_prices weighing system table steps p qs) e
+      (elim (Contains-cases step steps (record { source = p; label = label; target = t }) member) [
         | inl is ↦ inl (Covers-inverses (observe (weight_of weighing step.label)) (table step.target (post system qs step.label)) e
-            (subst (λ (x : Step). (f : Price) × Contains (table x.target (post system qs x.label)) f × IsAtMost (inverse (observe (weight_of weighing x.label)) f) e) (sym is) listed))
+            (subst (λ (x : Step). (f : Price) × Contains (table x.target (post system qs x.label)) f × IsAtMost
+            (inverse (observe (weight_of weighing x.label)) f) e) (sym is) listed))
         | inr later ↦ inr (affords-observation_prices steps p qs e (label, t, later, listed))
       ]))
       (λ apart. elim (Contains-cases step steps (record { source = p; label = label; target = t }) member) [
@@ -187,7 +207,8 @@ module _ (weighing : Weighing) (system : System) (table : Table) where
       ])
 
   -- what the backward step covers, the table affords
-  pub backward_step-affords : (p : ℕ) (qs : List ℕ) (e : Price) → Covers (backward_step weighing system table p qs) e → Affords weighing system (members_of table) p qs e
+  pub backward_step-affords : (p : ℕ) (qs : List ℕ) (e : Price) → Covers (backward_step weighing system table p qs) e
+      → Affords weighing system (members_of table) p qs e
   backward_step-affords p qs e covered =
       let made = Covers-from_minimal (observation_prices weighing system table system.steps p qs ++ split_prices table p qs) e covered in
       elim (Covers-append_cases (observation_prices weighing system table system.steps p qs) (split_prices table p qs) e made) [
@@ -196,7 +217,8 @@ module _ (weighing : Weighing) (system : System) (table : Table) where
       ]
 
   -- what the table affords, the backward step covers
-  pub affords-backward_step : (p : ℕ) (qs : List ℕ) (e : Price) → Affords weighing system (members_of table) p qs e → Covers (backward_step weighing system table p qs) e
+  pub affords-backward_step : (p : ℕ) (qs : List ℕ) (e : Price) → Affords weighing system (members_of table) p qs e
+      → Covers (backward_step weighing system table p qs) e
   affords-backward_step p qs e afforded = Covers-minimal (observation_prices weighing system table system.steps p qs ++ split_prices table p qs) e
       (Covers-append (observation_prices weighing system table system.steps p qs) (split_prices table p qs) e (elim afforded [
         | inl step ↦ inl (affords-observation_prices system.steps p qs e step)

@@ -45,7 +45,8 @@ module _ (weighing : Weighing) (system : System) (known : ℕ → List ℕ → T
 
   -- likewise for the formula of each clause
   abbrev pub AreCovered : Clauses → Type 0
-  AreCovered clauses = ((formula : Formula) → HasPlus clauses formula → IsCovered formula) × ((formula : Formula) → HasMinus clauses formula → IsCovered formula)
+  AreCovered clauses = ((formula : Formula) → HasPlus clauses formula → IsCovered formula)
+      × ((formula : Formula) → HasMinus clauses formula → IsCovered formula)
 
   -- a clause is afforded for each state at which one of the remaining clauses fails
   affords_clause : (clauses remaining : Clauses) → AreCovered clauses → AreRemaining weighing clauses remaining
@@ -71,7 +72,8 @@ module _ (weighing : Weighing) (system : System) (known : ℕ → List ℕ → T
     qs,
     IsDivided-all_right qs,
     (λ filled. absurd (filled refl)),
-    λ q member. affords_clause clauses clauses covered (record { plus = λ formula h. absurd (none formula h); minus = λ formula h. h }) p qs in_known holds q member
+    λ q member. affords_clause clauses clauses covered
+        (record { plus = λ formula h. absurd (none formula h); minus = λ formula h. h }) p qs in_known holds q member
         (failing system q clauses (untrue q member)),
   )
   split_by_pick clauses covered p qs in_known holds untrue (inr (formula, remaining, picked)) =
@@ -102,7 +104,8 @@ module _ (weighing : Weighing) (system : System) (known : ℕ → List ℕ → T
 
     IsCovered-all : (clauses : Clauses) → AreCovered clauses → IsCovered (all clauses)
     IsCovered-all clauses covered p qs in_known d =
-        covers p qs (price weighing (all clauses)) in_known (inr (cost weighing clauses, split clauses covered p qs in_known d.satisfied d.refuted, omega arith))
+        covers p qs (price weighing (all clauses)) in_known
+        (inr (cost weighing clauses, split clauses covered p qs in_known d.satisfied d.refuted, omega arith))
 
     IsCovered-more : (other : Formula) (has : Formula → Type 0) → IsCovered other → ((formula : Formula) → has formula → IsCovered formula)
         → (formula : Formula) → (other ≡ formula) ⊎ has formula → IsCovered formula

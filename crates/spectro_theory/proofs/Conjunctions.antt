@@ -54,7 +54,8 @@ module _ (weighing : Weighing) where
       → IsAtMost (inverse to_negative (price weighing formula)) (cost clauses)
   to_negative-below no_clauses formula h = absurd h
   to_negative-below (plus other clauses) formula h = omega (arith, to_negative-below clauses formula h)
-  to_negative-below (minus other clauses) formula (inl e) = subst (λ x. IsAtMost (inverse to_negative (price weighing x)) (cost (minus other clauses))) e (omega arith)
+  to_negative-below (minus other clauses) formula (inl e) = subst (λ x. IsAtMost (inverse to_negative (price weighing x)) (cost (minus other clauses))) e
+      (omega arith)
   to_negative-below (minus other clauses) formula (inr h) = omega (arith, to_negative-below clauses formula h)
 
   -- a negative clause, as one that refutes a state of the right part

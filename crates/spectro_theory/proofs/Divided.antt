@@ -38,7 +38,8 @@ Contains-right (to_left {q = r} {qs = qs} divided) q member = Contains-later r q
 -- what holds of a set holds of its left part
 pub All-left : {qs left right : List ℕ} (P : ℕ → Type 0) → IsDivided qs left right → All P qs → All P left
 All-left P nothing each = each
-All-left P (to_left {q = q} {left = left} divided) each = All-cons P q left (each zero q (omega arith)) (All-left P divided (λ k d within. each (suc k) d (omega arith)))
+All-left P (to_left {q = q} {left = left} divided) each = All-cons P q left (each zero q (omega arith))
+    (All-left P divided (λ k d within. each (suc k) d (omega arith)))
 All-left P (to_right divided) each = All-left P divided (λ k d within. each (suc k) d (omega arith))
 
 pub AllPairs-left : {qs left right : List ℕ} (R : ℕ → ℕ → Type 0) → IsDivided qs left right → AllPairs R qs → AllPairs R left

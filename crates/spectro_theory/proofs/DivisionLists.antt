@@ -30,10 +30,13 @@ divisions-Divides (q ∷ qs) d member =
 pub Contains-divisions : {qs left right : List ℕ} → IsDivided qs left right → Contains (divisions qs) (record { left = left; right = right })
 Contains-divisions nothing = Contains-first (record { left = []; right = [] }) []
 Contains-divisions (to_left {q = q} {qs = qs} {left = left} {right = right} divided) =
-    Contains-flat_map (both_ways q) (divisions qs) (record { left = left; right = right }) (record { left = q ∷ left; right = right }) (Contains-divisions divided)
-    (Contains-later (record { left = left; right = q ∷ right }) (record { left = q ∷ left; right = right } ∷ []) (record { left = q ∷ left; right = right }) (Contains-first (record { left = q ∷ left; right = right }) []))
+    Contains-flat_map (both_ways q) (divisions qs) (record { left = left; right = right }) (record { left = q ∷ left; right = right })
+    (Contains-divisions divided)
+    (Contains-later (record { left = left; right = q ∷ right }) (record { left = q ∷ left; right = right } ∷ []) (record { left = q ∷ left; right = right })
+    (Contains-first (record { left = q ∷ left; right = right }) []))
 Contains-divisions (to_right {q = q} {qs = qs} {left = left} {right = right} divided) =
-    Contains-flat_map (both_ways q) (divisions qs) (record { left = left; right = right }) (record { left = left; right = q ∷ right }) (Contains-divisions divided)
+    Contains-flat_map (both_ways q) (divisions qs) (record { left = left; right = right }) (record { left = left; right = q ∷ right })
+    (Contains-divisions divided)
     (Contains-first (record { left = left; right = q ∷ right }) (record { left = q ∷ left; right = right } ∷ []))
 
 -- all on the right
@@ -44,7 +47,8 @@ divisions-first : (qs : List ℕ) → divisions qs ≡ none_left qs ∷ drop 1 (
 divisions-first [] = refl
 divisions-first (q ∷ qs) = again q qs (drop 1 (divisions qs)) (divisions qs) (divisions-first qs)
   where
-    again : (q : ℕ) (qs : List ℕ) (others all : List Division) → all ≡ none_left qs ∷ others → flat_map (both_ways q) all ≡ none_left (q ∷ qs) ∷ drop 1 (flat_map (both_ways q) all)
+    again : (q : ℕ) (qs : List ℕ) (others all : List Division) → all ≡ none_left qs ∷ others
+        → flat_map (both_ways q) all ≡ none_left (q ∷ qs) ∷ drop 1 (flat_map (both_ways q) all)
     again q qs others all is = subst (λ ds. flat_map (both_ways q) ds ≡ none_left (q ∷ qs) ∷ drop 1 (flat_map (both_ways q) ds)) (sym is) refl
 
 -- something on the left
@@ -67,15 +71,18 @@ later_divisions-TakesSome (q ∷ qs) d member = again q qs (drop 1 (divisions qs
     again : (q : ℕ) (qs : List ℕ) (others all : List Division) → all ≡ none_left qs ∷ others → ((e : Division) → Contains others e → TakesSome e)
         → (d : Division) → Contains (drop 1 (flat_map (both_ways q) all)) d → TakesSome d
     again q qs others all is some d member =
-        let h : Contains (record { left = q ∷ []; right = qs } ∷ flat_map (both_ways q) others) d = subst (λ ds. Contains (drop 1 (flat_map (both_ways q) ds)) d) is member in
+        let h : Contains (record { left = q ∷ []; right = qs } ∷ flat_map (both_ways q) others) d = subst
+        (λ ds. Contains (drop 1 (flat_map (both_ways q) ds)) d) is member in
         elim (Contains-cases (record { left = q ∷ []; right = qs }) (flat_map (both_ways q) others) d h) [
           | inl same ↦ subst TakesSome same (λ none. cc)
           | inr later ↦ let found = Contains-flat_map_cases (both_ways q) others d later in both_ways-TakesSome q found.0 d (some found.0 found.1) found.2
         ]
 
-pub Contains-later_divisions : {qs left right : List ℕ} → left ≢ [] → IsDivided qs left right → Contains (drop 1 (divisions qs)) (record { left = left; right = right })
+pub Contains-later_divisions : {qs left right : List ℕ} → left ≢ [] → IsDivided qs left right
+    → Contains (drop 1 (divisions qs)) (record { left = left; right = right })
 Contains-later_divisions {qs} {left} {right} some divided =
-    elim (Contains-cases (none_left qs) (drop 1 (divisions qs)) (record { left = left; right = right }) (subst (λ ds. Contains ds (record { left = left; right = right })) (divisions-first qs) (Contains-divisions divided))) [
+    elim (Contains-cases (none_left qs) (drop 1 (divisions qs)) (record { left = left; right = right })
+    (subst (λ ds. Contains ds (record { left = left; right = right })) (divisions-first qs) (Contains-divisions divided))) [
       | inl same ↦ absurd (some (sym (ap (λ (d : Division). d.left) same)))
       | inr later ↦ later
     ]

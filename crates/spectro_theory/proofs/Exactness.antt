@@ -23,10 +23,13 @@ not_empty : (left : List ℕ) (q : ℕ) → Contains left q → left ≢ []
 not_empty left q member none = Contains-none q (subst (λ qs. Contains qs q) none member)
 
 -- where each positive clause is true and no negative one, all are
-each-true : (system : System) (s : ℕ) (clauses : Clauses) → ((formula : Formula) → HasPlus clauses formula → Satisfies system s formula) → ((formula : Formula) → HasMinus clauses formula → ¬ Satisfies system s formula) → SatisfiesEach system s clauses
+each-true : (system : System) (s : ℕ) (clauses : Clauses) → ((formula : Formula) → HasPlus clauses formula → Satisfies system s formula)
+    → ((formula : Formula) → HasMinus clauses formula → ¬ Satisfies system s formula) → SatisfiesEach system s clauses
 each-true system s no_clauses plus_true minus_false = tt
-each-true system s (plus formula clauses) plus_true minus_false = (plus_true formula (inl refl), each-true system s clauses (λ x h. plus_true x (inr h)) minus_false)
-each-true system s (minus formula clauses) plus_true minus_false = (minus_false formula (inl refl), each-true system s clauses plus_true (λ x h. minus_false x (inr h)))
+each-true system s (plus formula clauses) plus_true minus_false =
+    (plus_true formula (inl refl), each-true system s clauses (λ x h. plus_true x (inr h)) minus_false)
+each-true system s (minus formula clauses) plus_true minus_false =
+    (minus_false formula (inl refl), each-true system s clauses plus_true (λ x h. minus_false x (inr h)))
 
 module _ (weighing : Weighing) where
   -- clauses each of which fits e make a conjunction that costs at most e
@@ -43,7 +46,8 @@ module _ (weighing : Weighing) where
       low in
       omega arith
 
-module _ (weighing : Weighing) (system : System) (p : ℕ) (qs : List ℕ) (es : List Price) (least : AreLeastPrices weighing system p qs es) (e : Price) (member : Contains es e) where
+module _ (weighing : Weighing) (system : System) (p : ℕ) (qs : List ℕ) (es : List Price) (least : AreLeastPrices weighing system p qs es) (e : Price)
+    (member : Contains es e) where
   -- no distinguishing formula undercuts a least price
   pub price-reached : (formula : Formula) → Distinguishes system p qs formula → IsAtMost (price weighing formula) e → price weighing formula ≡ e
   price-reached formula d below =
@@ -69,12 +73,15 @@ module _ (weighing : Weighing) (system : System) (p : ℕ) (qs : List ℕ) (es :
   pub split-exact : (clauses : Clauses) → IsSplitAt weighing system p qs e clauses → IsOfPrice weighing system p qs e (all clauses)
   split-exact clauses split = record { distinguishes = distinguishes; paid = price-reached (all clauses) distinguishes below }
     where
-      refuted_right : (q : ℕ) → ((formula : Formula) × HasPlus clauses formula × Distinguishes system p (q ∷ []) formula) ⊎ ((formula : Formula) × HasMinus clauses formula × Distinguishes system q (p ∷ []) formula) → SatisfiesEach system q clauses → ⊥
+      refuted_right : (q : ℕ)
+          → ((formula : Formula) × HasPlus clauses formula × Distinguishes system p (q ∷ []) formula) ⊎
+          ((formula : Formula) × HasMinus clauses formula × Distinguishes system q (p ∷ []) formula) → SatisfiesEach system q clauses → ⊥
       refuted_right q (inl clause) true = clause.2.refuted q (Contains-first q []) (plus-true system q clauses clause.0 true clause.1)
       refuted_right q (inr clause) true = minus-false system q clauses clause.0 true clause.1 clause.2.satisfied
 
       refuted : (q : ℕ) → Contains split.left q ⊎ Contains split.right q → SatisfiesEach system q clauses → ⊥
-      refuted q (inl inside) true = let clause = split.refutes_left (not_empty split.left q inside) in clause.2.refuted q inside (plus-true system q clauses clause.0 true clause.1)
+      refuted q (inl inside) true = let clause = split.refutes_left (not_empty split.left q inside) in clause.2.refuted q inside
+          (plus-true system q clauses clause.0 true clause.1)
       refuted q (inr inside) true = refuted_right q (split.refutes_right q inside) true
 
       distinguishes : Distinguishes system p qs (all clauses)
@@ -84,4 +91,5 @@ module _ (weighing : Weighing) (system : System) (p : ℕ) (qs : List ℕ) (es :
       }
 
       below : IsAtMost (price weighing (all clauses)) e
-      below = conjunction-le weighing e one_conjunction clauses (λ x h. (split.plus_costs x h).1) (λ x h. (split.minus_costs x h).1) (second_greatest-is_low e.other_positive (positive_depths (priced_clauses weighing clauses)) split.others_cost)
+      below = conjunction-le weighing e one_conjunction clauses (λ x h. (split.plus_costs x h).1) (λ x h. (split.minus_costs x h).1)
+          (second_greatest-is_low e.other_positive (positive_depths (priced_clauses weighing clauses)) split.others_cost)

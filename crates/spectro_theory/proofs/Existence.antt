@@ -35,7 +35,8 @@ at_most : {X : Type 0} (xs all : List X) → StandOnce xs → ((i : ℕ) (x : X)
 at_most [] all once among = omega arith
 at_most (x ∷ xs) all once among = go (among zero x refl) (at_most xs)
   where
-    go : StandsIn all x → ((rest : List _) → StandOnce xs → ((i : ℕ) (y : _) → StandsAt xs i y → StandsIn rest y) → length xs ≤ length rest) → suc (length xs) ≤ length all
+    go : StandsIn all x → ((rest : List _) → StandOnce xs → ((i : ℕ) (y : _) → StandsAt xs i y → StandsIn rest y) → length xs ≤ length rest)
+        → suc (length xs) ≤ length all
     go (m, here) fewer =
         let e = length-removed m all (stands-below all m x here) in
         let rest_once : StandOnce xs = λ i j y one other. let q : suc i ≡ suc j = once (suc i) (suc j) y one other in omega arith in
@@ -54,12 +55,14 @@ module _ {X : Type 0} (same : X → X → Bool) (same-true : (x y : X) → same 
   AreInside xs = (x : X) → StandsIn xs x → StandsIn all x
 
   inside-with_all : (xs : List X) (x : X) → StandsIn all x → AreInside xs → AreInside (with_all same xs (follow x))
-  inside-with_all xs x known inside y member = elim (cases-with_all same same-true same-refl (follow x) xs y member) [ inl old ↦ inside y old | inr new ↦ closed x known y new ]
+  inside-with_all xs x known inside y member = elim
+      (cases-with_all same same-true same-refl (follow x) xs y member) [ inl old ↦ inside y old | inr new ↦ closed x known y new ]
 
   at_end : (xs : List X) (k : ℕ) → k ≡ length xs → AreReachedTo follow starts xs k 0 → (ys : List X) × AreReached follow starts ys
   at_end xs k e to = (xs, reached-from_end follow starts xs (subst (λ j. AreReachedTo follow starts xs j 0) e to))
 
-  grown : (fuel : ℕ) (xs : List X) (k : ℕ) → AreReachedTo follow starts xs k 0 → k ≤ length xs → AreInside xs → length all ≤ k + fuel → (ys : List X) × AreReached follow starts ys
+  grown : (fuel : ℕ) (xs : List X) (k : ℕ) → AreReachedTo follow starts xs k 0 → k ≤ length xs → AreInside xs → length all ≤ k + fuel
+      → (ys : List X) × AreReached follow starts ys
   grown zero xs k to within inside enough =
       let few = at_most xs all to.distinct (λ i x here. inside x (i, here)) in
       at_end xs k (omega arith) to

@@ -6,7 +6,8 @@ use Rattle.spectro_theory.proofs.Places.{stands-last}
 use Rattle.spectro_theory.proofs.Growing.{reached-known, reached-new, reached-next}
 use Rattle.spectro_theory.proofs.PutLast.{with_last-cases, stands-with_last}
 
-module _ {X : Type 0} (same : X → X → Bool) (same-true : (x y : X) → same x y ≡ true → x ≡ y) (same-refl : (x : X) → same x x ≡ true) (follow : X → List X) (starts : List X) where
+module _ {X : Type 0} (same : X → X → Bool) (same-true : (x y : X) → same x y ≡ true → x ≡ y) (same-refl : (x : X) → same x x ≡ true) (follow : X
+    → List X) (starts : List X) where
   reached-with_last : (xs : List X) (k r : ℕ) (x y : X) → AreReachedTo follow starts xs k r → StandsAt xs k x → StandsAt (follow x) r y
       → AreReachedTo follow starts (with_last same xs y) k (suc r)
   reached-with_last xs k r x y to here f =
@@ -28,7 +29,8 @@ module _ {X : Type 0} (same : X → X → Bool) (same-true : (x y : X) → same 
       reached-with_rest (done ++ y ∷ []) rest (with_last same xs y) k x (subst (λ m. AreReachedTo follow starts (with_last same xs y) k m) n next)
       (stands-with_last same same-true same-refl xs y k x here) (e ∙ sym (append_assoc done (y ∷ []) rest))
 
-  pub reached-with_all : (xs : List X) (k : ℕ) (x : X) → AreReachedTo follow starts xs k 0 → StandsAt xs k x → AreReachedTo follow starts (with_all same xs (follow x)) (suc k) 0
+  pub reached-with_all : (xs : List X) (k : ℕ) (x : X) → AreReachedTo follow starts xs k 0 → StandsAt xs k x
+      → AreReachedTo follow starts (with_all same xs (follow x)) (suc k) 0
   reached-with_all xs k x to here =
       let r = reached-with_rest [] (follow x) xs k x to here refl in
       reached-next follow starts (with_all same xs (follow x)) k (length (follow x)) x r.0 r.1 (omega arith)

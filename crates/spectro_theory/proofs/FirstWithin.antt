@@ -67,5 +67,6 @@ module _ (weighing : Weighing) (system : System) (p q : ℕ) (es : List Price) (
         least = price-reached weighing system p (q ∷ []) es least e member;
         first = λ other d within earlier.
             let low = least.covers other d in
-            none_earlier low.0 low.1 (IsWithin-smaller low.0 (price weighing other) bound low.2 within) (ComesBefore-below low.0 (price weighing other) e low.2 earlier);
+            none_earlier low.0 low.1 (IsWithin-smaller low.0 (price weighing other) bound low.2 within)
+            (ComesBefore-below low.0 (price weighing other) e low.2 earlier);
       }

@@ -16,7 +16,8 @@ use Rattle.spectro_spec.proofs.Successors.{Contains-post, post-has}
 use Rattle.spectro_theory.proofs.DivisionLists.{divisions-Divides, later_divisions-TakesSome, Contains-later_divisions}
 use Rattle.spectro_theory.proofs.Closures.{IsClosedByCases}
 
-pub follows_observed : (system : System) (p : ℕ) (qs : List ℕ) (label : Label) (t : ℕ) → HasStep system p label t → IsFollower system p qs t (post system qs label)
+pub follows_observed : (system : System) (p : ℕ) (qs : List ℕ) (label : Label) (t : ℕ) → HasStep system p label t
+    → IsFollower system p qs t (post system qs label)
 unfolding followers
 follows_observed system p qs label t step =
     let x : Pair = record { state = p; set = qs } in
@@ -33,7 +34,8 @@ follows_subset system p qs left right some divided =
     let y : Pair = record { state = p; set = left } in
     Contains-append_right (observed system x) (subsets x ++ swaps x) y
     (Contains-append_left (subsets x) (swaps x) y
-    (Contains-map (λ (d : Division). record { state = p; set = d.left }) (drop 1 (divisions qs)) (record { left = left; right = right }) (Contains-later_divisions some divided)))
+    (Contains-map (λ (d : Division). record { state = p; set = d.left }) (drop 1 (divisions qs)) (record { left = left; right = right })
+    (Contains-later_divisions some divided)))
 
 not-from_false : (b : Bool) → b ≡ false → not b ≡ true
 not-from_false true e = cc
@@ -53,11 +55,14 @@ follows_swapped system p qs q member differ =
     (Contains-append_right (subsets x) (swaps x) y
     (Contains-map (λ s. record { state = s; set = p ∷ [] }) _ q (Contains-filter (λ s. not (s == p)) qs q member kept)))
 
-after_step : (system : System) (p : ℕ) (qs : List ℕ) (p' : ℕ) (qs' : List ℕ) → Contains (observed system (record { state = p; set = qs })) (record { state = p'; set = qs' })
+after_step : (system : System) (p : ℕ) (qs : List ℕ) (p' : ℕ) (qs' : List ℕ)
+    → Contains (observed system (record { state = p; set = qs })) (record { state = p'; set = qs' })
     → (label : Label) × HasStep system p label p' × (qs' ≡ post system qs label)
 after_step system p qs p' qs' member =
-    let found = Contains-flat_map_cases (observed_under system (record { state = p; set = qs })) (labels_from system.steps p) (record { state = p'; set = qs' }) member in
-    let target = Contains-map_cases (λ s. record { state = s; set = post system qs found.0 }) (post system (p ∷ []) found.0) (record { state = p'; set = qs' }) found.2 in
+    let found = Contains-flat_map_cases (observed_under system (record { state = p; set = qs })) (labels_from system.steps p)
+    (record { state = p'; set = qs' }) member in
+    let target = Contains-map_cases (λ s. record { state = s; set = post system qs found.0 }) (post system (p ∷ []) found.0)
+    (record { state = p'; set = qs' }) found.2 in
     let from = Contains-post system (p ∷ []) found.0 target.0 target.1 in
     let source : p ≡ from.0 = only p from.0 (Contains-cases p [] from.0 from.1) in
     let step : HasStep system p found.0 target.0 = subst (λ s. HasStep system s found.0 target.0) (sym source) from.2 in
@@ -72,11 +77,15 @@ as_subset : (p : ℕ) (qs : List ℕ) (p' : ℕ) (qs' : List ℕ) → Contains (
 as_subset p qs p' qs' member =
     let found = Contains-map_cases (λ (d : Division). record { state = p; set = d.left }) (drop 1 (divisions qs)) (record { state = p'; set = qs' }) member in
     let set : found.0.left ≡ qs' = ap (λ (y : Pair). y.set) found.2 in
-    let divided = divisions-Divides qs found.0 (later_division qs found.0 found.1) in
-    (sym (ap (λ (y : Pair). y.state) found.2), subst (λ left. left ≢ []) set (later_divisions-TakesSome qs found.0 found.1), (found.0.right, subst (λ left. IsDivided qs left found.0.right) set divided))
+    let divided = divisions-Divides qs found.0 (later_division qs found.0 found.1) in (
+      sym (ap (λ (y : Pair). y.state) found.2),
+      subst (λ left. left ≢ []) set (later_divisions-TakesSome qs found.0 found.1),
+      (found.0.right, subst (λ left. IsDivided qs left found.0.right) set divided),
+    )
   where
     later_division : (qs : List ℕ) (d : Division) → Contains (drop 1 (divisions qs)) d → Contains (divisions qs) d
-    later_division qs d later = elim (divisions qs) as (λ ds. Contains (drop 1 ds) d → Contains ds d) [ [] ↦ λ h. h | e ∷ ds ↦ λ h. Contains-later e ds d h ] later
+    later_division qs d later = elim (divisions qs) as (λ ds. Contains (drop 1 ds) d
+        → Contains ds d) [ [] ↦ λ h. h | e ∷ ds ↦ λ h. Contains-later e ds d h ] later
 
 as_swap : (p : ℕ) (qs : List ℕ) (p' : ℕ) (qs' : List ℕ) → Contains (swaps (record { state = p; set = qs })) (record { state = p'; set = qs' })
     → Contains qs p' × (p ≢ p') × (qs' ≡ p ∷ [])
@@ -101,7 +110,8 @@ follower-cases system p qs p' qs' member =
 
 follows_by_case : (system : System) (p : ℕ) (qs : List ℕ) (p' : ℕ) (qs' : List ℕ) → FollowsByCase system p qs p' qs' → IsFollower system p qs p' qs'
 follows_by_case system p qs p' qs' (inl (label, step, e)) = subst (IsFollower system p qs p') (sym e) (follows_observed system p qs label p' step)
-follows_by_case system p qs p' qs' (inr (inl (e, some, (right, divided)))) = subst (λ s. IsFollower system p qs s qs') (sym e) (follows_subset system p qs qs' right some divided)
+follows_by_case system p qs p' qs' (inr (inl (e, some, (right, divided)))) = subst (λ s. IsFollower system p qs s qs') (sym e)
+    (follows_subset system p qs qs' right some divided)
 follows_by_case system p qs p' qs' (inr (inr (member, differ, e))) = subst (IsFollower system p qs p') (sym e) (follows_swapped system p qs p' member differ)
 
 pub IsFollower-iff : (system : System) (p : ℕ) (qs : List ℕ) (p' : ℕ) (qs' : List ℕ) → IsFollower system p qs p' qs' ↔ FollowsByCase system p qs p' qs'

@@ -87,7 +87,8 @@ module _ {X : Type 0} (follow : X → List X) where
         closed_at i s z g (inr p) = at_k i s z g p.0 p.1
 
     -- all followers of the member at place k are there
-    pub reached-next : (xs : List X) (k r : ℕ) (x : X) → AreReachedTo follow starts xs k r → StandsAt xs k x → length (follow x) ≤ r → AreReachedTo follow starts xs (suc k) 0
+    pub reached-next : (xs : List X) (k r : ℕ) (x : X) → AreReachedTo follow starts xs k r → StandsAt xs k x → length (follow x) ≤ r
+        → AreReachedTo follow starts xs (suc k) 0
     reached-next xs k r x to here long = record {
       distinct = to.distinct;
       begins = to.begins;
@@ -160,23 +161,28 @@ module _ {X : Type 0} (follow : X → List X) where
             → (i : ℕ) × (s : ℕ) × (i < j) × IsFoundAt follow (xs ++ y ∷ []) i s z × IsFoundBefore i s k (suc r)
         found_at j z past at = go (stands-cases xs y j z at)
           where
-            go : StandsAt xs j z ⊎ ((j ≡ length xs) × (y ≡ z)) → (i : ℕ) × (s : ℕ) × (i < j) × IsFoundAt follow (xs ++ y ∷ []) i s z × IsFoundBefore i s k (suc r)
+            go : StandsAt xs j z ⊎ ((j ≡ length xs) × (y ≡ z))
+                → (i : ℕ) × (s : ℕ) × (i < j) × IsFoundAt follow (xs ++ y ∷ []) i s z × IsFoundBefore i s k (suc r)
             go (inl old) =
                 let v = to.found j z past old in
                 let m : j < length xs = stands-below xs j z old in
                 let n : v.0 < j = v.2 in
                 (v.0, v.1, v.2, found-alike follow xs (xs ++ y ∷ []) (length xs) v.0 v.1 z (alike-longer xs y) (omega arith) v.3, later v.0 v.1 v.4)
-            go (inr last) = let e : j ≡ length xs = last.0 in (k, r, omega (arith, inside), subst (IsFoundAt follow (xs ++ y ∷ []) k r) last.1 found_new, inr (refl, omega arith))
+            go (inr last) = let e : j ≡ length xs = last.0 in
+                (k, r, omega (arith, inside), subst (IsFoundAt follow (xs ++ y ∷ []) k r) last.1 found_new, inr (refl, omega arith))
 
         -- an old member was found in the old list, where it is found in the new one
-        found_old : (j : ℕ) (u : X) (i s : ℕ) → length starts ≤ j → StandsAt xs j u → IsFoundAt follow (xs ++ y ∷ []) i s u → IsFoundAt follow xs i s u × IsFoundBefore i s k r
+        found_old : (j : ℕ) (u : X) (i s : ℕ) → length starts ≤ j → StandsAt xs j u → IsFoundAt follow (xs ++ y ∷ []) i s u
+            → IsFoundAt follow xs i s u × IsFoundBefore i s k r
         found_old j u i s past at found =
             let v = to.found j u past at in
             let m : j < length xs = stands-below xs j u at in
             let n : v.0 < j = v.2 in
-            let now : IsFoundAt follow (xs ++ y ∷ []) v.0 v.1 u = found-alike follow xs (xs ++ y ∷ []) (length xs) v.0 v.1 u (alike-longer xs y) (omega arith) v.3 in
+            let now : IsFoundAt follow (xs ++ y ∷ []) v.0 v.1 u = found-alike follow xs (xs ++ y ∷ []) (length xs) v.0 v.1 u (alike-longer xs y)
+            (omega arith) v.3 in
             let e : (v.0 ≡ i) × (v.1 ≡ s) = found-one (xs ++ y ∷ []) u v.0 v.1 i s now found in
-            let one : IsFoundAt follow xs i v.1 u × IsFoundBefore i v.1 k r = subst (λ n. IsFoundAt follow xs n v.1 u × IsFoundBefore n v.1 k r) e.0 (v.3, v.4) in
+            let one : IsFoundAt follow xs i v.1 u
+            × IsFoundBefore i v.1 k r = subst (λ n. IsFoundAt follow xs n v.1 u × IsFoundBefore n v.1 k r) e.0 (v.3, v.4) in
             subst (λ n. IsFoundAt follow xs i n u × IsFoundBefore i n k r) e.1 one
 
         rising_at : (j l : ℕ) (u z : X) (i s h t : ℕ) → length starts ≤ j → j < l → StandsAt (xs ++ y ∷ []) j u → StandsAt (xs ++ y ∷ []) l z

@@ -75,7 +75,8 @@ module _ (weighing : Weighing) (system : System) (p : ℕ) (qs : List ℕ) where
     apart = apart;
   }
 
-  covers_alike : (es fs : List Price) → AreLeastPrices weighing system p qs es → AreLeastPrices weighing system p qs fs → (e : Price) → Covers es e → Covers fs e
+  covers_alike : (es fs : List Price) → AreLeastPrices weighing system p qs es → AreLeastPrices weighing system p qs fs → (e : Price) → Covers es e
+      → Covers fs e
   covers_alike es fs l m e (f, member, below) =
       let paid = l.prices f member in
       let low = m.covers paid.0 paid.1 in

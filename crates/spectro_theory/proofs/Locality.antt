@@ -30,13 +30,27 @@ module _ (weighing : Weighing) (system : System) (listing other : Listing) (p : 
   clause_grows q e member (inl (f, listed, below)) =
       let one = divided_at qs q member in
       let g = low p (q ∷ []) f (follows_subset system p qs (q ∷ []) one.0 (λ none. cc) one.1) listed in
-      inl (g.0, g.1, IsAtMost-trans (inverse-monotone to_other (inverse to_positive g.0) (inverse to_positive f) (inverse-monotone to_positive g.0 f g.2)) below)
+      inl (
+        g.0,
+        g.1,
+        IsAtMost-trans
+            (inverse-monotone to_other (inverse to_positive g.0) (inverse to_positive f) (inverse-monotone to_positive g.0 f g.2)) below,
+      )
   clause_grows q e member (inr (apart, (f, listed, below))) =
       let g = low q (p ∷ []) f (follows_swapped system p qs q member apart) listed in
-      inr (apart, (g.0, g.1, IsAtMost-trans (inverse-monotone to_other (inverse to_negative g.0) (inverse to_negative f) (inverse-monotone to_negative g.0 f g.2)) below))
+      inr (
+        apart,
+        (
+          g.0,
+          g.1,
+          IsAtMost-trans
+              (inverse-monotone to_other (inverse to_negative g.0) (inverse to_negative f) (inverse-monotone to_negative g.0 f g.2)) below,
+        ),
+      )
 
   split_grows : (e : Price) → AffordsSplit listing p qs e → AffordsSplit other p qs e
-  split_grows e (left, right, divided, deepest, clauses) = (left, right, divided, lower, λ q member. clause_grows q e (Contains-right divided q member) (clauses q member))
+  split_grows e (left, right, divided, deepest, clauses) =
+      (left, right, divided, lower, λ q member. clause_grows q e (Contains-right divided q member) (clauses q member))
     where
       lower : left ≢ [] → (f : Price) × other p left f × IsAtMost (inverse to_deepest f) e
       lower some =
@@ -60,7 +74,8 @@ module _ (weighing : Weighing) (system : System) where
       (backward_step-affords weighing system table p qs e covered))
 
   -- tables that agree at the followers of a pair make the same step there
-  pub backward_step-local : (table other : Table) (p : ℕ) (qs : List ℕ) → ((p' : ℕ) (qs' : List ℕ) → IsFollower system p qs p' qs' → table p' qs' ≡ other p' qs')
+  pub backward_step-local : (table other : Table) (p : ℕ) (qs : List ℕ)
+      → ((p' : ℕ) (qs' : List ℕ) → IsFollower system p qs p' qs' → table p' qs' ≡ other p' qs')
       → backward_step weighing system table p qs ≡ backward_step weighing system other p qs
   backward_step-local table other p qs same = same_by_cover (backward_step weighing system table p qs) (backward_step weighing system other p qs)
       (backward_step-rises weighing system table p qs) (backward_step-rises weighing system other p qs)
@@ -93,7 +108,8 @@ is_same_list-Decides (e ∷ es) (f ∷ fs) = Decides-like (is_same_list (e ∷ e
     back is = (cc, cc)
 
 module _ (weighing : Weighing) (system : System) (k : ℕ) (x : Pair) where
-  has_changed-Decides : (y : Pair) → Decides (has_changed weighing system k y) (generation weighing system (suc k) y.state y.set ≢ generation weighing system k y.state y.set)
+  has_changed-Decides : (y : Pair)
+      → Decides (has_changed weighing system k y) (generation weighing system (suc k) y.state y.set ≢ generation weighing system k y.state y.set)
   has_changed-Decides y = Decides-not (is_same_list (generation weighing system (suc k) y.state y.set) (generation weighing system k y.state y.set))
       (is_same_list-Decides (generation weighing system (suc k) y.state y.set) (generation weighing system k y.state y.set))
 
@@ -101,14 +117,18 @@ module _ (weighing : Weighing) (system : System) (k : ℕ) (x : Pair) where
   pub is_marked-Decides : Decides (is_marked weighing system (suc k) x) (HasChangedFollower weighing system k x)
   unfolding is_marked
   is_marked-Decides = (
-    (λ marked. let found = list_any-cases (has_changed weighing system k) (followers system x) marked in (found.0.state, found.0.set, found.1, (has_changed-Decides found.0).0 found.2)),
-    (λ (p, qs, follows, differs). list_any-has (has_changed weighing system k) (followers system x) (record { state = p; set = qs }) follows ((has_changed-Decides (record { state = p; set = qs })).1 differs)),
+    (λ marked. let found = list_any-cases (has_changed weighing system k) (followers system x) marked in
+        (found.0.state, found.0.set, found.1, (has_changed-Decides found.0).0 found.2)),
+    (λ (p, qs, follows, differs). list_any-has (has_changed weighing system k) (followers system x) (record { state = p; set = qs }) follows
+        ((has_changed-Decides (record { state = p; set = qs })).1 differs)),
   )
 
-  later-unmarked : is_marked weighing system (suc k) x ≡ false → generation weighing system (suc (suc k)) x.state x.set ≡ generation weighing system (suc k) x.state x.set
+  later-unmarked : is_marked weighing system (suc k) x ≡ false
+      → generation weighing system (suc (suc k)) x.state x.set ≡ generation weighing system (suc k) x.state x.set
   later-unmarked unmarked = generation-keeps weighing system k x.state x.set (λ p qs follows.
       by_test (λ _. generation weighing system (suc k) p qs ≡ generation weighing system k p qs)
-      (is_same_list (generation weighing system (suc k) p qs) (generation weighing system k p qs)) (is_same_list-Decides (generation weighing system (suc k) p qs) (generation weighing system k p qs))
+      (is_same_list (generation weighing system (suc k) p qs) (generation weighing system k p qs))
+      (is_same_list-Decides (generation weighing system (suc k) p qs) (generation weighing system k p qs))
       (λ same. same)
       (λ differs. absurd (not_from_Decides (is_marked weighing system (suc k) x) is_marked-Decides unmarked (p, qs, follows, differs))))
 

@@ -31,7 +31,8 @@ division_at m [] = record { left = []; right = [] }
 division_at m (q ∷ qs) = with_member q (eqb (m % 2) 1) (division_at (m / 2) qs)
 
 -- the division at place m is that of mask m
-both_ways-place : (q : ℕ) (ds : List Division) (m : ℕ) (d : Division) → StandsAt ds (m / 2) d → StandsAt (flat_map (both_ways q) ds) m (with_member q (eqb (m % 2) 1) d)
+both_ways-place : (q : ℕ) (ds : List Division) (m : ℕ) (d : Division) → StandsAt ds (m / 2) d
+    → StandsAt (flat_map (both_ways q) ds) m (with_member q (eqb (m % 2) 1) d)
 both_ways-place q [] m d is = absurd (cc)
 both_ways-place q (x ∷ ds) zero d is = cc
 both_ways-place q (x ∷ ds) (suc zero) d is = cc
@@ -45,7 +46,8 @@ pub divisions-place : (qs : List ℕ) (m : ℕ) → m < 2 ^ length qs → Stands
 unfolding division_at
 divisions-place [] zero below = refl
 divisions-place [] (suc m) below = absurd (omega arith)
-divisions-place (q ∷ qs) m below = both_ways-place q (divisions qs) m (division_at (m / 2) qs) (divisions-place qs (m / 2) (omega (arith, pow-suc 2 (length qs))))
+divisions-place (q ∷ qs) m below = both_ways-place q (divisions qs) m (division_at (m / 2) qs)
+    (divisions-place qs (m / 2) (omega (arith, pow-suc 2 (length qs))))
 
 length-both_ways : (q : ℕ) (ds : List Division) → length (flat_map (both_ways q) ds) ≡ 2 * length ds
 length-both_ways q [] = omega arith
@@ -93,7 +95,8 @@ unfolding division_at
 member-side m [] i q is = absurd (cc)
 member-side m (x ∷ qs) zero q is =
     subst (λ b. Contains (side b (with_member x (eqb (m % 2) 1) (division_at (m / 2) qs))) q) (sym (has_bit-first m))
-    (subst (λ y. Contains (side (eqb (m % 2) 1) (with_member x (eqb (m % 2) 1) (division_at (m / 2) qs))) y) (let here : x ≡ q = cc in here) (side-first x (eqb (m % 2) 1) (division_at (m / 2) qs)))
+    (subst (λ y. Contains (side (eqb (m % 2) 1) (with_member x (eqb (m % 2) 1) (division_at (m / 2) qs))) y) (let here : x ≡ q = cc in here)
+    (side-first x (eqb (m % 2) 1) (division_at (m / 2) qs)))
 member-side m (x ∷ qs) (suc i) q is =
     subst (λ b. Contains (side b (with_member x (eqb (m % 2) 1) (division_at (m / 2) qs))) q) (has_bit-half m i)
     (side-later x (eqb (m % 2) 1) (has_bit (m / 2) i) (division_at (m / 2) qs) q (member-side (m / 2) qs i q is))
@@ -132,10 +135,15 @@ division_at-IsByMask qs mask = record {
 }
 
 pub divisions-AreByMask : (qs : List ℕ) → AreByMask qs (divisions qs)
-divisions-AreByMask qs = record { count = length-divisions qs; place = λ mask below. (division_at mask qs, divisions-place qs mask below, division_at-IsByMask qs mask) }
+divisions-AreByMask qs = record {
+  count = length-divisions qs;
+  place = λ mask below.
+      (division_at mask qs, divisions-place qs mask below, division_at-IsByMask qs mask);
+}
 
 -- ---- the left part member by member
-left-with_member : (q : ℕ) (left : Bool) (d e : Division) (more : List ℕ) → d.left ≡ e.left ++ more → (with_member q left d).left ≡ (with_member q left e).left ++ more
+left-with_member : (q : ℕ) (left : Bool) (d e : Division) (more : List ℕ) → d.left ≡ e.left ++ more
+    → (with_member q left d).left ≡ (with_member q left e).left ++ more
 left-with_member q true d e more is = ap (λ l. q ∷ l) is
 left-with_member q false d e more is = is
 

@@ -35,18 +35,21 @@ is_at_most-Decides e f = Decides-like (is_at_most e f) (λ h. omega arith) (λ h
 pub precedes-Decides : (ns ms : List ℕ) → Decides (precedes ns ms) (IsFirstSmaller ns ms)
 precedes-Decides [] ms = ((λ h. cc), λ h. absurd h)
 precedes-Decides (n ∷ ns) [] = ((λ h. cc), λ h. absurd h)
-precedes-Decides (n ∷ ns) (m ∷ ms) = Decides-or (ltb n m) _ (Decides-ltb n m) (Decides-and (eqb n m) (precedes ns ms) (Decides-eqb n m) (precedes-Decides ns ms))
+precedes-Decides (n ∷ ns) (m ∷ ms) = Decides-or (ltb n m) _ (Decides-ltb n m)
+    (Decides-and (eqb n m) (precedes ns ms) (Decides-eqb n m) (precedes-Decides ns ms))
 
 pub some_covers-Decides : (es : List Price) (e : Price) → Decides (some_covers es e) (Covers es e)
 some_covers-Decides [] e = ((λ h. cc), λ h. absurd (Contains-none h.0 h.1))
-some_covers-Decides (f ∷ fs) e = Decides-like (some_covers (f ∷ fs) e) there back (Decides-or (is_at_most f e) (some_covers fs e) (is_at_most-Decides f e) (some_covers-Decides fs e))
+some_covers-Decides (f ∷ fs) e = Decides-like (some_covers (f ∷ fs) e) there back
+    (Decides-or (is_at_most f e) (some_covers fs e) (is_at_most-Decides f e) (some_covers-Decides fs e))
   where
     there : IsAtMost f e ⊎ Covers fs e → Covers (f ∷ fs) e
     there (inl below) = (f, Contains-first f fs, below)
     there (inr (g, member, below)) = (g, Contains-later f fs g member, below)
 
     back : Covers (f ∷ fs) e → IsAtMost f e ⊎ Covers fs e
-    back (g, member, below) = elim (Contains-cases f fs g member) [ inl same ↦ inl (subst (λ x. IsAtMost x e) (sym same) below) | inr later ↦ inr (g, later, below) ]
+    back (g, member, below) = elim
+        (Contains-cases f fs g member) [ inl same ↦ inl (subst (λ x. IsAtMost x e) (sym same) below) | inr later ↦ inr (g, later, below) ]
 
 -- of two rows of as many numbers one comes first, or they are equal
 one_first : (ns ms : List ℕ) → length ns ≡ length ms → IsFirstSmaller ns ms ⊎ ((ns ≡ ms) ⊎ IsFirstSmaller ms ns)
@@ -72,7 +75,15 @@ parts-injective e f same =
     let g : e.deepest_negative ≡ f.deepest_negative = cc in
     let h : e.negations ≡ f.negations = cc in
     let k : e.weighted_depth ≡ f.weighted_depth = cc in
-    λ i. record { observations = a i; conjunctions = b i; deepest_positive = c i; other_positive = d i; deepest_negative = g i; negations = h i; weighted_depth = k i }
+    λ i. record {
+      observations = a i;
+      conjunctions = b i;
+      deepest_positive = c i;
+      other_positive = d i;
+      deepest_negative = g i;
+      negations = h i;
+      weighted_depth = k i;
+    }
 
 -- of two prices the second comes first where the first does not
 comes_after : (e f : Price) → e ≢ f → ¬ ComesBefore e f → ComesBefore f e
@@ -105,8 +116,10 @@ not_above-member e (g ∷ gs) f member = by_test (λ b. Contains (not_above_by b
 member-not_above : (e : Price) (es : List Price) (f : Price) → Contains es f → ¬ IsAtMost e f → Contains (not_above e es) f
 member-not_above e [] f member apart = absurd (Contains-none f member)
 member-not_above e (g ∷ gs) f member apart = by_test (λ b. Contains (not_above_by b e g gs) f) (is_at_most e g) (is_at_most-Decides e g)
-    (λ above. elim (Contains-cases g gs f member) [ inl same ↦ absurd (apart (subst (λ x. IsAtMost e x) same above)) | inr later ↦ member-not_above e gs f later apart ])
-    (λ _. elim (Contains-cases g gs f member) [ inl same ↦ (0, omega arith, same) | inr later ↦ Contains-later g (not_above e gs) f (member-not_above e gs f later apart) ])
+    (λ above. elim (Contains-cases g gs f member)
+    [ inl same ↦ absurd (apart (subst (λ x. IsAtMost e x) same above)) | inr later ↦ member-not_above e gs f later apart ])
+    (λ _. elim (Contains-cases g gs f member)
+    [ inl same ↦ (0, omega arith, same) | inr later ↦ Contains-later g (not_above e gs) f (member-not_above e gs f later apart) ])
 
 not_above-rises : (e : Price) (es : List Price) → Rises es → Rises (not_above e es)
 not_above-rises e [] rises = tt
@@ -211,7 +224,8 @@ minimal_elements-covers : (es : List Price) (f : Price) → Contains es f → Co
 minimal_elements-covers [] f member = absurd (Contains-none f member)
 minimal_elements-covers (e ∷ es) f member = elim (Contains-cases e es f member) [
   | inl same ↦ inserted-covers e (minimal_elements es) f (inl same)
-  | inr later ↦ Covers-more (minimal_elements es) (inserted e (minimal_elements es)) (λ g old. inserted-covers e (minimal_elements es) g (inr old)) f (minimal_elements-covers es f later)
+  | inr later ↦ Covers-more (minimal_elements es) (inserted e (minimal_elements es)) (λ g old. inserted-covers e (minimal_elements es) g (inr old)) f
+      (minimal_elements-covers es f later)
 ]
 
 -- they cover just what the list covers
@@ -222,7 +236,8 @@ pub Covers-minimal : (es : List Price) (e : Price) → Covers es e → Covers (m
 Covers-minimal es e covered = Covers-more es (minimal_elements es) (minimal_elements-covers es) e covered
 
 -- lists that cover alike have the same minimal elements
-pub minimal_elements-by_cover : (es fs : List Price) → ((e : Price) → Covers es e → Covers fs e) → ((e : Price) → Covers fs e → Covers es e) → minimal_elements es ≡ minimal_elements fs
+pub minimal_elements-by_cover : (es fs : List Price) → ((e : Price) → Covers es e → Covers fs e) → ((e : Price) → Covers fs e → Covers es e)
+    → minimal_elements es ≡ minimal_elements fs
 minimal_elements-by_cover es fs there back = same_by_cover (minimal_elements es) (minimal_elements fs)
     (minimal_elements-rises es) (minimal_elements-rises fs) (minimal_elements-apart es) (minimal_elements-apart fs)
     (λ e covered. Covers-minimal fs e (there e (Covers-from_minimal es e covered)))
@@ -231,7 +246,8 @@ minimal_elements-by_cover es fs there back = same_by_cover (minimal_elements es)
 -- one more at the end of a list is inserted into its minimal elements
 pub minimal_elements-push : (es : List Price) (e : Price) → minimal_elements (es ++ e ∷ []) ≡ inserted e (minimal_elements es)
 minimal_elements-push es e = minimal_elements-by_cover (es ++ e ∷ []) (e ∷ es)
-    (λ x (f, member, below). elim (Contains-push_cases es e f member) [ inl old ↦ (f, Contains-later e es f old, below) | inr same ↦ (f, (0, omega arith, same), below) ])
+    (λ x (f, member, below). elim
+    (Contains-push_cases es e f member) [ inl old ↦ (f, Contains-later e es f old, below) | inr same ↦ (f, (0, omega arith, same), below) ])
     (λ x (f, member, below). elim (Contains-cases e es f member) [
       | inl same ↦ (e, Contains-push es e, subst (λ y. IsAtMost y x) (sym same) below)
       | inr old ↦ (f, Contains-append_left es (e ∷ []) f old, below)

@@ -33,7 +33,8 @@ stands-left (y ∷ xs) ys (suc i) x here = stands-left xs ys i x here
 
 pub stands-right : {X : Type 0} (xs ys : List X) (i : ℕ) (x : X) → StandsAt ys i x → StandsAt (xs ++ ys) (length xs + i) x
 stands-right [] ys i x here = let e : 0 + i ≡ i = omega arith in subst (λ n. StandsAt ys n x) (sym e) here
-stands-right (y ∷ xs) ys i x here = let e : suc (length xs) + i ≡ suc (length xs + i) = omega arith in subst (λ n. StandsAt (y ∷ (xs ++ ys)) n x) (sym e) (stands-right xs ys i x here)
+stands-right (y ∷ xs) ys i x here = let e : suc (length xs) + i ≡ suc (length xs + i) = omega arith in subst (λ n. StandsAt (y ∷ (xs ++ ys)) n x) (sym e)
+    (stands-right xs ys i x here)
 
 pub stands-last : {X : Type 0} (xs : List X) (y : X) (rest : List X) → StandsAt (xs ++ y ∷ rest) (length xs) y
 stands-last [] y rest = refl
@@ -65,7 +66,8 @@ pub stands-map : {X Y : Type 0} (f : X → Y) (xs : List X) (i : ℕ) (x : X) �
 stands-map f xs i x here = slice_get-map f xs i ∙ ap (option_map f) here
 
 -- a member that passes the test stands behind those before it that pass
-pub stands-filter : {X : Type 0} (test : X → Bool) (xs : List X) (i : ℕ) (x : X) → StandsAt xs i x → test x ≡ true → StandsAt (filter test xs) (length (filter test (take i xs))) x
+pub stands-filter : {X : Type 0} (test : X → Bool) (xs : List X) (i : ℕ) (x : X) → StandsAt xs i x → test x ≡ true
+    → StandsAt (filter test xs) (length (filter test (take i xs))) x
 stands-filter test [] i x here pass = absurd (cc)
 stands-filter test (y ∷ xs) zero x here pass =
     let e : y ≡ x = cc in

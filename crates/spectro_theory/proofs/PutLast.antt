@@ -41,7 +41,8 @@ unfolding with_all with_last
 with_all-grows same [] xs = ([], sym (append-nil xs))
 with_all-grows {X} same (y ∷ ys) xs = go (list_any (same y) xs) (with_all-grows same ys)
   where
-    go : (b : Bool) → ((l : List X) → (rest : List X) × (with_all same l ys ≡ l ++ rest)) → (rest : List X) × (with_all same (cond b xs (xs ++ y ∷ [])) ys ≡ xs ++ rest)
+    go : (b : Bool) → ((l : List X) → (rest : List X) × (with_all same l ys ≡ l ++ rest))
+        → (rest : List X) × (with_all same (cond b xs (xs ++ y ∷ [])) ys ≡ xs ++ rest)
     go true r = r xs
     go false r = let s = r (xs ++ y ∷ []) in (y ∷ s.0, s.1 ∙ append_assoc xs (y ∷ []) s.0)
 
@@ -71,7 +72,8 @@ module _ {X : Type 0} (same : X → X → Bool) (same-true : (x y : X) → same 
       go false e = e
 
   -- two cases: y stands there, and the list stays; or it does not, and goes last
-  pub with_last-cases : (P : List X → Type 0) (xs : List X) (y : X) → (StandsIn xs y → P xs) → ((StandsIn xs y → ⊥) → P (xs ++ y ∷ [])) → P (with_last same xs y)
+  pub with_last-cases : (P : List X → Type 0) (xs : List X) (y : X) → (StandsIn xs y → P xs) → ((StandsIn xs y → ⊥) → P (xs ++ y ∷ []))
+      → P (with_last same xs y)
   unfolding with_last
   with_last-cases P xs y known new = go (list_any (same y) xs) refl
     where

@@ -67,7 +67,8 @@ module _ (weighing : Weighing) (system : System) (known : ℕ → List ℕ → T
           → ((q : ℕ) → Contains (x ∷ right) q → AffordsClause other p q b) ⊎ Lacks known listing other e
       go (inr lacks) rest = inr lacks
       go (inl here) (inr lacks) = inr lacks
-      go (inl here) (inl rest) = inl (λ q member. elim (Contains-cases x right q member) [ inl z ↦ subst (λ y. AffordsClause other p y b) z here | inr h ↦ rest q h ])
+      go (inl here) (inl rest) = inl
+          (λ q member. elim (Contains-cases x right q member) [ inl z ↦ subst (λ y. AffordsClause other p y b) z here | inr h ↦ rest q h ])
 
   left_or : (p : ℕ) (qs left right : List ℕ) (b e : Price) → known p qs → IsAtMost b e → IsDivided qs left right
       → (left ≢ [] → (f : Price) × listing p left f × IsAtMost (inverse to_deepest f) b)
@@ -105,7 +106,8 @@ abbrev pub AreDistinct : {X : Type 0} → List X → Type 0
 AreDistinct [] = Unit {0}
 AreDistinct (x ∷ xs) = ¬ Contains xs x × AreDistinct xs
 
-without : {X : Type 0} (ys : List X) (x : X) → Contains ys x → (zs : List X) × (length ys ≡ suc (length zs)) × ((y : X) → Contains ys y → (x ≡ y) ⊎ Contains zs y)
+without : {X : Type 0} (ys : List X) (x : X) → Contains ys x
+    → (zs : List X) × (length ys ≡ suc (length zs)) × ((y : X) → Contains ys y → (x ≡ y) ⊎ Contains zs y)
 without [] x member = absurd (Contains-none x member)
 without (y ∷ ys) x member = go (Contains-cases y ys x member) (without ys x)
   where
@@ -151,7 +153,8 @@ module _ (weighing : Weighing) (system : System) (tables : ℕ → Table) (gener
   table_affords_or : (known : ℕ → List ℕ → Type 0) → IsClosedByCases system known → (j k p : ℕ) (qs : List ℕ) (e : Price) → known p qs
       → Affords weighing system (members_of (tables j)) p qs e
       → Affords weighing system (members_of (tables k)) p qs e ⊎ Lacks known (members_of (tables j)) (members_of (tables k)) e
-  table_affords_or known closed j k = affords_or weighing system known closed (members_of (tables j)) (members_of (tables k)) (λ p qs e. decide_covers (tables k p qs) e)
+  table_affords_or known closed j k = affords_or weighing system known closed (members_of (tables j)) (members_of (tables k))
+      (λ p qs e. decide_covers (tables k p qs) e)
 
   -- what a generation covers the next one covers
   pub grows : (k p : ℕ) (qs : List ℕ) (e : Price) → Covers (tables k p qs) e → Covers (tables (suc k) p qs) e
@@ -160,9 +163,11 @@ module _ (weighing : Weighing) (system : System) (tables : ℕ → Table) (gener
       (go (table_affords_or any_pair (any_pair-closed system) k (suc k) p qs e tt (generations.affords k p qs e covered)) (grows k))
     where
       go : Affords weighing system (members_of (tables (suc k))) p qs e ⊎ Lacks any_pair (members_of (tables k)) (members_of (tables (suc k))) e
-          → ((p : ℕ) (qs : List ℕ) (e : Price) → Covers (tables k p qs) e → Covers (tables (suc k) p qs) e) → Affords weighing system (members_of (tables (suc k))) p qs e
+          → ((p : ℕ) (qs : List ℕ) (e : Price) → Covers (tables k p qs) e → Covers (tables (suc k) p qs) e)
+          → Affords weighing system (members_of (tables (suc k))) p qs e
       go (inl h) rest = h
-      go (inr lacks) rest = absurd (lacks.not_listed (rest lacks.pair.state lacks.pair.set lacks.lacked (lacks.lacked, lacks.listed, IsAtMost-refl lacks.lacked)))
+      go (inr lacks) rest = absurd
+          (lacks.not_listed (rest lacks.pair.state lacks.pair.set lacks.lacked (lacks.lacked, lacks.listed, IsAtMost-refl lacks.lacked)))
 
   grows_by : (n k p : ℕ) (qs : List ℕ) (e : Price) → Covers (tables k p qs) e → Covers (tables (n + k) p qs) e
   grows_by zero k p qs e covered = subst (λ m. Covers (tables m p qs) e) (omega arith) covered
@@ -218,10 +223,15 @@ module _ (weighing : Weighing) (system : System) (tables : ℕ → Table) (gener
         go (table_affords_or known closed (suc k) k x.state x.set e inside (generations.affords (suc k) x.state x.set e new.covered)) (path k)
       where
         go : Affords weighing system (members_of (tables k)) x.state x.set e ⊎ Lacks known (members_of (tables (suc k))) (members_of (tables k)) e
-            → ((y : Pair) (f : Price) → known y.state y.set → IsNew k y f → (xs : List Pair) × IsPath known k f xs) → (xs : List Pair) × IsPath known (suc k) e xs
+            → ((y : Pair) (f : Price) → known y.state y.set → IsNew k y f → (xs : List Pair) × IsPath known k f xs)
+            → (xs : List Pair) × IsPath known (suc k) e xs
         go (inl h) rest = absurd (new.not_before (generations.covers k x.state x.set e h))
         go (inr lacks) rest =
-            let new_there : IsNew k lacks.pair lacks.lacked = record { covered = (lacks.lacked, lacks.listed, IsAtMost-refl lacks.lacked); not_before = lacks.not_listed } in
+            let new_there : IsNew k lacks.pair lacks.lacked = record {
+              covered =
+                  (lacks.lacked, lacks.listed, IsAtMost-refl lacks.lacked);
+              not_before = lacks.not_listed;
+            } in
             let found = rest lacks.pair lacks.lacked lacks.is_known new_there in
             (x ∷ found.0, longer k x e lacks.lacked found.0 inside new lacks.below found.1)
 

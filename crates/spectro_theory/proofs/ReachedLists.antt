@@ -35,7 +35,8 @@ module _ {X : Type 0} (follow : X → List X) where
     before_through i s h t l u first second = grind arith
 
     -- y at place n of the whole list, where x is at place n of the other and stands later in the whole one
-    none_between : (n i s m : ℕ) (x y : X) → StandAlike xs ys n → length starts ≤ n → StandsAt xs n x → i < n → IsFoundAt follow xs i s x → IsFoundBefore i s k r
+    none_between : (n i s m : ℕ) (x y : X) → StandAlike xs ys n → length starts ≤ n → StandsAt xs n x → i < n → IsFoundAt follow xs i s x
+        → IsFoundBefore i s k r
         → StandsAt ys m x → n < m → StandsAt ys n y → ⊥
     none_between n i s m x y alike past here below found_x early later beyond instead = go (whole.found n y past instead)
       where
@@ -43,7 +44,8 @@ module _ {X : Type 0} (follow : X → List X) where
         meets h t p under found_y before at_p = elim (cases_lt p n) [
           | inl c ↦ let e : p ≡ n = whole.distinct p n y (alike.there p y c at_p) instead in omega arith
           | inr c ↦ elim (cases_lt n p) [
-            | inl d ↦ not_both_before h t i s before (to.rising n p x y i s h t past d here at_p found_x (found-alike ys xs n h t y (alike-back xs ys n alike) under found_y))
+            | inl d ↦ not_both_before h t i s before
+                (to.rising n p x y i s h t past d here at_p found_x (found-alike ys xs n h t y (alike-back xs ys n alike) under found_y))
             | inr d ↦
                 let e : p ≡ n = omega arith in
                 let same : x ≡ y = stands-one xs n x y here (subst (λ j. StandsAt xs j y) e at_p) in
@@ -54,7 +56,8 @@ module _ {X : Type 0} (follow : X → List X) where
 
         go : (h : ℕ) × (t : ℕ) × (h < n) × IsFoundAt follow ys h t y → ⊥
         go (h, t, under, found_y) =
-            let before : IsFoundBefore h t i s = whole.rising n m y x h t i s past beyond instead later found_y (found-alike xs ys n i s x alike below found_x) in
+            let before : IsFoundBefore h t i s = whole.rising n m y x h t i s past beyond instead later found_y
+            (found-alike xs ys n i s x alike below found_x) in
             let f : Follows follow xs h t y = follows-alike ys xs n h t y (alike-back xs ys n alike) under found_y.follows in
             let inside : StandsIn xs y = to.closed h t y f (before_through h t i s k r before early) in
             meets h t inside.0 under found_y before inside.1
@@ -135,7 +138,8 @@ module _ {X : Type 0} (follow : X → List X) where
   -- there is at most one list of what is reached
   pub one_reached : (starts xs ys : List X) → AreReached follow starts xs → AreReached follow starts ys → xs ≡ ys
   one_reached starts xs ys one other =
-      go (reached_begins starts xs ys (length xs) 0 (reached-to_end starts xs one) other) (reached_begins starts ys xs (length ys) 0 (reached-to_end starts ys other) one)
+      go (reached_begins starts xs ys (length xs) 0 (reached-to_end starts xs one) other)
+      (reached_begins starts ys xs (length ys) 0 (reached-to_end starts ys other) one)
     where
       go : (rest : List X) × (ys ≡ xs ++ rest) → (more : List X) × (xs ≡ ys ++ more) → xs ≡ ys
       go (rest, p) (more, q) =

@@ -93,7 +93,8 @@ module _ (system : System) (starts : List Pair) where
   unfolding around
   around-closed x known y follows =
       let found = Contains-flat_map_cases around starts x (Contains-stands all_around x known) in
-      let next : Contains (around found.0) y = universe-closed system found.0.state found.0.set x.state x.set y.state y.set found.2 (Contains-stands (followers system x) y follows) in
+      let next : Contains (around found.0) y = universe-closed system found.0.state found.0.set x.state x.set y.state y.set found.2
+      (Contains-stands (followers system x) y follows) in
       StandsIn-member all_around y (Contains-flat_map around starts found.0 y found.1 next)
 
   around-starts : (x : Pair) → StandsIn starts x → StandsIn all_around x
@@ -103,4 +104,5 @@ module _ (system : System) (starts : List Pair) where
 
 pub some_pairs : ReachedPairsExist
 some_pairs system starts once =
-    some_reached is_same_pair same_pair-equal same_pair-itself (followers system) starts (all_around system starts) (around-closed system starts) once (around-starts system starts)
+    some_reached is_same_pair same_pair-equal same_pair-itself (followers system) starts (all_around system starts) (around-closed system starts) once
+    (around-starts system starts)

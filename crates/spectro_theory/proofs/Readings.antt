@@ -42,13 +42,15 @@ IsWithin-greater e bound other below within = record {
 
 module _ (weighing : Weighing) (system : System) where
   -- where no least price is within the bound, no formula is that distinguishes
-  Holds-none_within : (p q : ℕ) (es : List Price) (bound : Bound) → AreLeastPrices weighing system p (q ∷ []) es → ((e : Price) → Contains es e → ¬ IsWithin e bound) → Holds weighing bound system p q
+  Holds-none_within : (p q : ℕ) (es : List Price) (bound : Bound) → AreLeastPrices weighing system p (q ∷ []) es
+      → ((e : Price) → Contains es e → ¬ IsWithin e bound) → Holds weighing bound system p q
   Holds-none_within p q es bound least none formula within d =
       let covered = least.covers formula d in
       none covered.0 covered.1 (IsWithin-smaller covered.0 (price weighing formula) bound covered.2 within)
 
   -- a least price is that of a formula
-  not_Holds-within : (p q : ℕ) (es : List Price) (bound : Bound) (e : Price) → AreLeastPrices weighing system p (q ∷ []) es → Contains es e → IsWithin e bound → ¬ Holds weighing bound system p q
+  not_Holds-within : (p q : ℕ) (es : List Price) (bound : Bound) (e : Price) → AreLeastPrices weighing system p (q ∷ []) es → Contains es e
+      → IsWithin e bound → ¬ Holds weighing bound system p q
   not_Holds-within p q es bound e least member within holds =
       let made = least.prices e member in
       holds made.0 (subst (λ f. IsWithin f bound) (sym made.2) within) made.1
@@ -56,5 +58,6 @@ module _ (weighing : Weighing) (system : System) where
   pub Holds-smaller : (bound other : Bound) (p q : ℕ) → IsBelow bound other → Holds weighing other system p q → Holds weighing bound system p q
   Holds-smaller bound other p q below holds formula within d = holds formula (IsWithin-greater (price weighing formula) bound other below within) d
 
-  pub Holds-iff : (p q : ℕ) (es : List Price) (bound : Bound) → AreLeastPrices weighing system p (q ∷ []) es → Holds weighing bound system p q ↔ ((e : Price) → Contains es e → ¬ IsWithin e bound)
+  pub Holds-iff : (p q : ℕ) (es : List Price) (bound : Bound) → AreLeastPrices weighing system p (q ∷ []) es
+      → Holds weighing bound system p q ↔ ((e : Price) → Contains es e → ¬ IsWithin e bound)
   Holds-iff p q es bound least = ((λ holds e member within. not_Holds-within p q es bound e least member within holds), Holds-none_within p q es bound least)

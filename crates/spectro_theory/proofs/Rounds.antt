@@ -20,7 +20,8 @@ module _ (weighing : Weighing) (system : System) where
   unfolding IsWonWithin
   covered zero p qs e won = absurd won
   covered (suc k) p qs e won = tables.covers k p qs e
-      (Affords-grows weighing system (IsWonWithin weighing system k) (members_of (generation weighing system k)) p qs (λ p' qs' f follows here. covered k p' qs' f here) e won)
+      (Affords-grows weighing system (IsWonWithin weighing system k) (members_of (generation weighing system k)) p qs
+      (λ p' qs' f follows here. covered k p' qs' f here) e won)
 
   won : (k p : ℕ) (qs : List ℕ) (e : Price) → Covers (generation weighing system k p qs) e → IsWonWithin weighing system k p qs e
   unfolding IsWonWithin

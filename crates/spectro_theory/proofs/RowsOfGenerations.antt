@@ -25,7 +25,8 @@ same_pair-Decides x p qs = Decides-like (eqb x.state p && bytes_eq x.set qs)
 
 -- the row at a pair is that of the first place where the pair stands
 pub listed_at-first : (pairs : List Pair) (rows : List (List Price)) (i p : ℕ) (qs : List ℕ) (es : List Price)
-    → ((j : ℕ) → j < i → ¬ StandsAt pairs j (record { state = p; set = qs })) → StandsAt pairs i (record { state = p; set = qs }) → StandsAt rows i es → listed_at pairs rows p qs ≡ es
+    → ((j : ℕ) → j < i → ¬ StandsAt pairs j (record { state = p; set = qs })) → StandsAt pairs i (record { state = p; set = qs }) → StandsAt rows i es
+    → listed_at pairs rows p qs ≡ es
 unfolding listed_at
 listed_at-first [] rows i p qs es earlier here row = absurd (cc)
 listed_at-first (x ∷ pairs) [] i p qs es earlier here row = absurd (cc)
@@ -39,7 +40,8 @@ listed_at-first (x ∷ pairs) (fs ∷ rows) (suc i) p qs es earlier here row =
     (λ _. listed_at-first pairs rows i p qs es (λ j before. earlier (suc j) (omega arith)) here row)
 
 -- the rows of a table list at each of the pairs what the table does
-listed_at-map : (table : Table) (pairs : List Pair) (p : ℕ) (qs : List ℕ) → IsOneOf pairs p qs → listed_at pairs (map (λ (x : Pair). table x.state x.set) pairs) p qs ≡ table p qs
+listed_at-map : (table : Table) (pairs : List Pair) (p : ℕ) (qs : List ℕ) → IsOneOf pairs p qs
+    → listed_at pairs (map (λ (x : Pair). table x.state x.set) pairs) p qs ≡ table p qs
 unfolding listed_at
 listed_at-map table [] p qs member = absurd (Contains-none (record { state = p; set = qs }) member)
 listed_at-map table (x ∷ pairs) p qs member =
@@ -61,7 +63,8 @@ rows_alike table other (x ∷ pairs) same =
     λ i. first i ∷ later i
 
 module _ (weighing : Weighing) (system : System) (pairs : List Pair) where
-  pub listed_at-generation : (k p : ℕ) (qs : List ℕ) → IsOneOf pairs p qs → listed_at pairs (generation_rows weighing system pairs k) p qs ≡ generation weighing system k p qs
+  pub listed_at-generation : (k p : ℕ) (qs : List ℕ) → IsOneOf pairs p qs
+      → listed_at pairs (generation_rows weighing system pairs k) p qs ≡ generation weighing system k p qs
   unfolding generation_rows
   listed_at-generation k p qs member = listed_at-map (generation weighing system k) pairs p qs member
 

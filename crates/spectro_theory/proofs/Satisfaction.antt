@@ -30,7 +30,8 @@ module _ (system : System) where
   decide_see : (s : ℕ) (label : Label) (P : ℕ → Type 0) → ((t : ℕ) → Dec (P t)) → Dec ((t : ℕ) × HasStep system s label t × P t)
   decide_see s label P decided = elim (decide_member (λ (step : Step). (step.source ≡ s) × ((step.label ≡ label) × P step.target))
       (λ step. decide_both (decide_number step.source s) (decide_both (decide_label step.label label) (decided step.target))) system.steps) [
-        | yes (step, member, h) ↦ yes (step.target, subst (λ x. Contains system.steps x) (λ i. record { source = h.0 i; label = h.1.0 i; target = step.target }) member, h.1.1)
+        | yes (step, member, h) ↦ yes
+            (step.target, subst (λ x. Contains system.steps x) (λ i. record { source = h.0 i; label = h.1.0 i; target = step.target }) member, h.1.1)
         | no none ↦ no (λ h. none (record { source = s; label = label; target = h.0 }, h.1, (refl, (refl, h.2))))
       ]
 

@@ -16,15 +16,19 @@ use Rattle.spectro_theory.proofs.BackwardSteps.{backward_step-affords}
 use Rattle.spectro_theory.proofs.Soundness.{sound_step}
 use Rattle.spectro_theory.proofs.Completeness.{complete}
 
-pub backward_step-IsSound : (weighing : Weighing) (system : System) (table : Table) → IsSound weighing system table → IsSound weighing system (backward_step weighing system table)
+pub backward_step-IsSound : (weighing : Weighing) (system : System) (table : Table) → IsSound weighing system table
+    → IsSound weighing system (backward_step weighing system table)
 backward_step-IsSound weighing system table sound p qs e member =
     sound_step weighing system (members_of table) sound p qs e (backward_step-affords weighing system table p qs e (e, member, IsAtMost-refl e))
 
-module _ (weighing : Weighing) (system : System) (pairs : List Pair) (table : Table) (covering : IsSelfCovering weighing system pairs table) (p : ℕ) (qs : List ℕ) (known : IsOneOf pairs p qs) where
+module _ (weighing : Weighing) (system : System) (pairs : List Pair) (table : Table) (covering : IsSelfCovering weighing system pairs table) (p : ℕ)
+    (qs : List ℕ) (known : IsOneOf pairs p qs) where
   pub self_covering-complete : (formula : Formula) → Distinguishes system p qs formula → Covers (table p qs) (price weighing formula)
   self_covering-complete formula distinguishes =
-      complete weighing system (IsOneOf pairs) (members_of table) (closed_by_cases system (IsOneOf pairs) covering.closed) covering.covers formula p qs known distinguishes
+      complete weighing system (IsOneOf pairs) (members_of table)
+      (closed_by_cases system (IsOneOf pairs) covering.closed) covering.covers formula p qs known distinguishes
 
   pub self_covering-exact : Rises (table p qs) → AreApart (table p qs)
-      → ((e : Price) → Contains (table p qs) e → (formula : Formula) × Distinguishes system p qs formula × (price weighing formula ≡ e)) → AreLeastPrices weighing system p qs (table p qs)
+      → ((e : Price) → Contains (table p qs) e → (formula : Formula) × Distinguishes system p qs formula × (price weighing formula ≡ e))
+      → AreLeastPrices weighing system p qs (table p qs)
   self_covering-exact rises apart prices = record { rises = rises; prices = prices; covers = self_covering-complete; apart = apart }

@@ -32,13 +32,15 @@ module _ (weighing : Weighing) (system : System) where
   least_from_step known closed table rises apart sound covers p qs is_known =
       least_from_cover weighing system p qs (table p qs) (rises p qs) (apart p qs)
       (λ e covered. let (formula, d, low) = sound p qs covered.0 covered.1 in (formula, d, IsAtMost-trans low covered.2))
-      (λ e win. let listed = complete weighing system known (members_of table) closed covers win.0 p qs is_known win.1 in (listed.0, listed.1, IsAtMost-trans listed.2 win.2))
+      (λ e win. let listed = complete weighing system known (members_of table) closed covers win.0 p qs is_known win.1 in
+      (listed.0, listed.1, IsAtMost-trans listed.2 win.2))
 
   module _ (tables : ℕ → Table) (generations : AreGenerations weighing system tables) where
     -- each listed price is at least the price of some distinguishing formula
     wins_listed : (k p : ℕ) (qs : List ℕ) (e : Price) → Contains (tables k p qs) e → AttackerWins weighing system p qs e
     wins_listed zero p qs e member = absurd (generations.empty p qs e member)
-    wins_listed (suc k) p qs e member = sound_step weighing system (members_of (tables k)) (wins_listed k) p qs e (generations.affords k p qs e (e, member, IsAtMost-refl e))
+    wins_listed (suc k) p qs e member = sound_step weighing system (members_of (tables k)) (wins_listed k) p qs e
+        (generations.affords k p qs e (e, member, IsAtMost-refl e))
 
     module _ (rises : (k p : ℕ) (qs : List ℕ) → Rises (tables k p qs)) (apart : (k p : ℕ) (qs : List ℕ) → AreApart (tables k p qs))
         (known : ℕ → List ℕ → Type 0) (closed : IsClosedByCases system known) where
@@ -65,7 +67,8 @@ module _ (weighing : Weighing) (system : System) (pairs : List Pair) (closed : I
       k (λ p qs e is_one covered. subst (λ es. Covers es e) (same p qs is_one) covered)
 
   -- as many rounds as there are pairs are enough
-  pub generation-late : (k : ℕ) → length pairs ≤ k → (p : ℕ) (qs : List ℕ) → IsOneOf pairs p qs → AreLeastPrices weighing system p qs (generation weighing system k p qs)
+  pub generation-late : (k : ℕ) → length pairs ≤ k → (p : ℕ) (qs : List ℕ) → IsOneOf pairs p qs
+      → AreLeastPrices weighing system p qs (generation weighing system k p qs)
   generation-late =
       least_if_late weighing system (generation weighing system) (generation-AreGenerations weighing system)
       (generation-rises weighing system) (generation-apart weighing system)

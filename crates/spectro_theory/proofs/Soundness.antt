@@ -42,7 +42,8 @@ module _ (weighing : Weighing) (system : System) where
 
   module _ (listing : Listing) (sound : (p : ℕ) (qs : List ℕ) (e : Price) → listing p qs e → AttackerWins weighing system p qs e) where
     sound_observation : (p : ℕ) (qs : List ℕ) (label : Label) (t : ℕ) (f e : Price) → HasStep system p label t
-        → AttackerWins weighing system t (post system qs label) f → IsAtMost (inverse (observe (weight_of weighing label)) f) e → AttackerWins weighing system p qs e
+        → AttackerWins weighing system t (post system qs label) f → IsAtMost (inverse (observe (weight_of weighing label)) f) e
+        → AttackerWins weighing system p qs e
     sound_observation p qs label t f e step (formula, d, low) h = (
       see label formula,
       record {
@@ -108,7 +109,8 @@ module _ (weighing : Weighing) (system : System) where
           all (plus formula clauses),
           record {
             satisfied = (d.satisfied, made.satisfied);
-            refuted = λ q member holds. elim (Contains-divided_cases divided q member) [ inl first ↦ d.refuted q first holds.0 | inr later ↦ made.refuted q later holds.1 ];
+            refuted = λ q member holds. elim
+                (Contains-divided_cases divided q member) [ inl first ↦ d.refuted q first holds.0 | inr later ↦ made.refuted q later holds.1 ];
           },
           omega (arith, cost-deepest formula clauses b f low cost_left made.cheap),
         )

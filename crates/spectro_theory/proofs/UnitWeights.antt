@@ -11,7 +11,8 @@ module _ (weighing : Weighing) (unit : (label : Label) → weight_of weighing la
     weighted_depth-unit (see label formula) = omega (arith, weighted_depth-unit formula, unit label)
     weighted_depth-unit (all clauses) = greatest_part-unit clauses
 
-    greatest_part-unit : (clauses : Clauses) → greatest_part (λ e. e.weighted_depth) (priced_clauses weighing clauses) ≡ greatest_part (λ e. e.observations) (priced_clauses weighing clauses)
+    greatest_part-unit : (clauses : Clauses)
+        → greatest_part (λ e. e.weighted_depth) (priced_clauses weighing clauses) ≡ greatest_part (λ e. e.observations) (priced_clauses weighing clauses)
     greatest_part-unit no_clauses = refl
     greatest_part-unit (plus formula clauses) = omega (arith, weighted_depth-unit formula, greatest_part-unit clauses)
     greatest_part-unit (minus formula clauses) = omega (arith, weighted_depth-unit formula, greatest_part-unit clauses)

@@ -46,7 +46,8 @@ part_of_part (to_right {q = q} outer) inner = later_part q (part_of_part outer i
 ascending_part : (ns ms : List ℕ) → Ascends ns → Ascends ms → ((k : ℕ) → Contains ns k → Contains ms k) → IsPart ms ns
 ascending_part [] ms part_rises whole_rises among = (ms, IsDivided-all_right ms)
 ascending_part (n ∷ ns) [] part_rises whole_rises among = absurd (Contains-none n (among n (Contains-first n ns)))
-ascending_part (n ∷ ns) (m ∷ ms) part_rises whole_rises among = go (decide_number m n) (ascending_part ns ms part_rises.1 whole_rises.1) (ascending_part (n ∷ ns) ms part_rises whole_rises.1)
+ascending_part (n ∷ ns) (m ∷ ms) part_rises whole_rises among = go (decide_number m n) (ascending_part ns ms part_rises.1 whole_rises.1)
+    (ascending_part (n ∷ ns) ms part_rises whole_rises.1)
   where
     below : (k : ℕ) → Contains ns k → n < k
     below = ascends-below n ns part_rises
@@ -71,7 +72,8 @@ abbrev parts_of : List ℕ → List (List ℕ)
 parts_of qs = map (λ (d : Division). d.left) (divisions qs)
 
 Contains-parts_of : (qs left : List ℕ) → IsPart qs left → Contains (parts_of qs) left
-Contains-parts_of qs left (right, divided) = Contains-map (λ (d : Division). d.left) (divisions qs) (record { left = left; right = right }) (Contains-divisions divided)
+Contains-parts_of qs left (right, divided) = Contains-map (λ (d : Division). d.left) (divisions qs) (record { left = left; right = right })
+    (Contains-divisions divided)
 
 Contains-parts_of_cases : (qs left : List ℕ) → Contains (parts_of qs) left → IsPart qs left
 Contains-parts_of_cases qs left member =
@@ -89,7 +91,8 @@ Contains-pairs_of : (states : List ℕ) (sets : List (List ℕ)) (p : ℕ) (qs :
 Contains-pairs_of states sets p qs state set =
     Contains-flat_map (against sets) states p (record { state = p; set = qs }) state (Contains-map (λ rs. record { state = p; set = rs }) sets qs set)
 
-Contains-pairs_of_cases : (states : List ℕ) (sets : List (List ℕ)) (p : ℕ) (qs : List ℕ) → IsOneOf (pairs_of states sets) p qs → Contains states p × Contains sets qs
+Contains-pairs_of_cases : (states : List ℕ) (sets : List (List ℕ)) (p : ℕ) (qs : List ℕ) → IsOneOf (pairs_of states sets) p qs
+    → Contains states p × Contains sets qs
 Contains-pairs_of_cases states sets p qs member =
     let found = Contains-flat_map_cases (against sets) states (record { state = p; set = qs }) member in
     let inner = Contains-map_cases (λ rs. record { state = found.0; set = rs }) sets (record { state = p; set = qs }) found.2 in
@@ -115,7 +118,9 @@ module _ (system : System) (p : ℕ) (qs : List ℕ) where
 
   step-to_state : (s : ℕ) (label : Label) (t : ℕ) → HasStep system s label t → Contains states t
   step-to_state s label t step =
-      Contains-later p (qs ++ targets) t (Contains-append_right qs targets t (Contains-map (λ (step : Step). step.target) system.steps (record { source = s; label = label; target = t }) step))
+      Contains-later p (qs ++ targets) t
+      (Contains-append_right qs targets t
+      (Contains-map (λ (step : Step). step.target) system.steps (record { source = s; label = label; target = t }) step))
 
   part-set : (left : List ℕ) → IsPart (rising states) left → Contains sets left
   part-set left part = Contains-append_right (parts_of qs) (parts_of (rising states)) left (Contains-parts_of (rising states) left part)
@@ -128,7 +133,8 @@ module _ (system : System) (p : ℕ) (qs : List ℕ) where
 
   set-subset : (set left right : List ℕ) → Contains sets set → IsDivided set left right → Contains sets left
   set-subset set left right known divided = elim (Contains-append_cases (parts_of qs) (parts_of (rising states)) set known) [
-    | inl h ↦ Contains-append_left (parts_of qs) (parts_of (rising states)) left (Contains-parts_of qs left (part_of_part (Contains-parts_of_cases qs set h).1 divided))
+    | inl h ↦ Contains-append_left (parts_of qs) (parts_of (rising states)) left
+        (Contains-parts_of qs left (part_of_part (Contains-parts_of_cases qs set h).1 divided))
     | inr h ↦ part-set left (part_of_part (Contains-parts_of_cases (rising states) set h).1 divided)
   ]
 
@@ -144,8 +150,10 @@ module _ (system : System) (p : ℕ) (qs : List ℕ) where
   follower-known : (s : ℕ) (set : List ℕ) (s' : ℕ) (set' : List ℕ) → Contains states s → Contains sets set → FollowsByCase system s set s' set'
       → Contains states s' × Contains sets set'
   follower-known s set s' set' state known (inl (label, step, e)) = (step-to_state s label s' step, subst (Contains sets) (sym e) (set-successors set label))
-  follower-known s set s' set' state known (inr (inl (e, some, (right, divided)))) = (subst (Contains states) (sym e) state, set-subset set set' right known divided)
-  follower-known s set s' set' state known (inr (inr (member, differ, e))) = (set-member set known s' member, subst (Contains sets) (sym e) (set-single s state))
+  follower-known s set s' set' state known (inr (inl (e, some, (right, divided)))) =
+      (subst (Contains states) (sym e) state, set-subset set set' right known divided)
+  follower-known s set s' set' state known (inr (inr (member, differ, e))) =
+      (set-member set known s' member, subst (Contains sets) (sym e) (set-single s state))
 
   pub universe-closed : IsClosed system (IsOneOf universe)
   universe-closed s set s' set' known follows =
@@ -160,5 +168,8 @@ module _ (system : System) (p : ℕ) (qs : List ℕ) where
 -- the generation after as many rounds as there are pairs lists them
 pub some_least : LeastPricesExist
 some_least weighing system p qs =
-    let pairs = universe system p qs in
-    (generation weighing system (length pairs) p qs, generation-late weighing system pairs (universe-closed system p qs) (length pairs) (omega arith) p qs (universe-has system p qs))
+    let pairs = universe system p qs in (
+      generation weighing system (length pairs) p qs,
+      generation-late weighing system pairs (universe-closed system p qs) (length pairs) (omega arith) p qs
+          (universe-has system p qs),
+    )

@@ -17,7 +17,8 @@ paid_from_leaves false e f h = (refl, h)
 pub leaves : (u : Update) (e f : Price) → IsAtMost (inverse u f) e → Leaves (apply u e) f
 leaves (observe weight) e f h =
     let left : Price = record e { observations = e.observations - 1; weighted_depth = e.weighted_depth - weight } in
-    Leaves-paid ((e.observations == 0) || nat_lt e.weighted_depth weight) left f (λ refused. elim (or_cases (e.observations == 0) (nat_lt e.weighted_depth weight) refused) [
+    Leaves-paid ((e.observations == 0) || nat_lt e.weighted_depth weight) left f
+    (λ refused. elim (or_cases (e.observations == 0) (nat_lt e.weighted_depth weight) refused) [
       | inl t ↦ omega (arith, eqb-true e.observations 0 t)
       | inr t ↦ omega (arith, ltb-true e.weighted_depth weight t)
     ]) (omega arith)

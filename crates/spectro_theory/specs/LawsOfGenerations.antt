@@ -19,7 +19,8 @@ IsWonWithin weighing system (suc k) p qs e = Affords weighing system (IsWonWithi
 -- what is won in at most k rounds is just what generation k covers
 abbrev pub RoundsAreGenerations : Type 0
 RoundsAreGenerations =
-    (weighing : Weighing) (system : System) (k p : ℕ) (qs : List ℕ) (e : Price) → IsWonWithin weighing system k p qs e ↔ Covers (generation weighing system k p qs) e
+    (weighing : Weighing) (system : System) (k p : ℕ) (qs : List ℕ) (e : Price)
+    → IsWonWithin weighing system k p qs e ↔ Covers (generation weighing system k p qs) e
 
 -- the backward step of the rows of generation k has those of generation k + 1
 abbrev pub NextRowsAreGenerations : Type 0
@@ -81,7 +82,8 @@ HasChangedFollower weighing system k x =
 
 -- the generation after k + 1 evaluates just the pairs with such a follower
 abbrev pub MarksAreByChange : Type 0
-MarksAreByChange = (weighing : Weighing) (system : System) (k : ℕ) (x : Pair) → is_marked weighing system (suc k) x ≡ true ↔ HasChangedFollower weighing system k x
+MarksAreByChange = (weighing : Weighing) (system : System) (k : ℕ) (x : Pair)
+    → is_marked weighing system (suc k) x ≡ true ↔ HasChangedFollower weighing system k x
 
 -- a pair that the generation after k does not evaluate keeps its list
 abbrev pub UnmarkedPairsKeepTheirLists : Type 0
@@ -92,5 +94,7 @@ UnmarkedPairsKeepTheirLists =
 -- solved rows afford each price that they list, so a listed price has an observation or a split that fits it
 abbrev pub SolvedRowsAffordTheirPrices : Type 0
 SolvedRowsAffordTheirPrices =
-    (weighing : Weighing) (system : System) (pairs : List Pair) (rows : List (List Price)) → IsClosed system (IsOneOf pairs) → IsSolved weighing system pairs rows
-    → (p : ℕ) (qs : List ℕ) (e : Price) → IsOneOf pairs p qs → Contains (listed_at pairs rows p qs) e → Affords weighing system (members_of (listed_at pairs rows)) p qs e
+    (weighing : Weighing) (system : System) (pairs : List Pair) (rows : List (List Price)) → IsClosed system (IsOneOf pairs)
+    → IsSolved weighing system pairs rows
+    → (p : ℕ) (qs : List ℕ) (e : Price) → IsOneOf pairs p qs → Contains (listed_at pairs rows p qs) e
+    → Affords weighing system (members_of (listed_at pairs rows)) p qs e

@@ -53,4 +53,5 @@ FirstWithinIsShown =
 
 -- where a greater bound holds, so does each smaller one
 abbrev pub SmallerBoundsHoldMore : Type 0
-SmallerBoundsHoldMore = (weighing : Weighing) (system : System) (bound other : Bound) (p q : ℕ) → IsBelow bound other → Holds weighing other system p q → Holds weighing bound system p q
+SmallerBoundsHoldMore = (weighing : Weighing) (system : System) (bound other : Bound) (p q : ℕ) → IsBelow bound other → Holds weighing other system p q
+    → Holds weighing bound system p q

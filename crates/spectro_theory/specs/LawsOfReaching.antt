@@ -33,7 +33,8 @@ pub record IsFront (front pairs : List Pair) : Type 0 where
 -- what is reached by the first k pairs is a front of each list of what is reached
 abbrev pub ReachedFrontsAreFronts : Type 0
 ReachedFrontsAreFronts =
-    (system : System) (starts front pairs : List Pair) (k : ℕ) → AreReachedPairsTo system starts front k → AreReachedPairs system starts pairs → IsFront front pairs
+    (system : System) (starts front pairs : List Pair) (k : ℕ) → AreReachedPairsTo system starts front k → AreReachedPairs system starts pairs
+    → IsFront front pairs
 
 -- the new pairs begin with the old ones, are just the old and the added ones, and none stands twice where no old one does
 pub record HavePutLast (old added new : List Pair) : Type 0 where

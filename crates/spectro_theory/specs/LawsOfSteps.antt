@@ -31,7 +31,8 @@ abbrev pub IsSound : Weighing → System → Table → Type 0
 IsSound weighing system table = (p : ℕ) (qs : List ℕ) (e : Price) → Contains (table p qs) e → AttackerWins weighing system p qs e
 
 abbrev pub BackwardStepsAreSound : Type 0
-BackwardStepsAreSound = (weighing : Weighing) (system : System) (table : Table) → IsSound weighing system table → IsSound weighing system (backward_step weighing system table)
+BackwardStepsAreSound = (weighing : Weighing) (system : System) (table : Table) → IsSound weighing system table
+    → IsSound weighing system (backward_step weighing system table)
 
 -- what is won is afforded over what is won, and the other way
 abbrev pub WinsAreAfforded : Type 0
@@ -47,13 +48,15 @@ pub record IsSelfCovering (weighing : Weighing) (system : System) (pairs : List 
 -- a table that covers its own backward step covers the price of each formula that distinguishes
 abbrev pub SelfCoveringTablesAreComplete : Type 0
 SelfCoveringTablesAreComplete =
-    (weighing : Weighing) (system : System) (pairs : List Pair) (table : Table) → IsSelfCovering weighing system pairs table → (p : ℕ) (qs : List ℕ) → IsOneOf pairs p qs
+    (weighing : Weighing) (system : System) (pairs : List Pair) (table : Table) → IsSelfCovering weighing system pairs table → (p : ℕ) (qs : List ℕ)
+    → IsOneOf pairs p qs
     → (formula : Formula) → Distinguishes system p qs formula → Covers (table p qs) (price weighing formula)
 
 -- so where its list at a pair rises, is apart and has the prices of such formulas alone, that is the list of least prices
 abbrev pub SelfCoveringTablesAreExact : Type 0
 SelfCoveringTablesAreExact =
-    (weighing : Weighing) (system : System) (pairs : List Pair) (table : Table) → IsSelfCovering weighing system pairs table → (p : ℕ) (qs : List ℕ) → IsOneOf pairs p qs
+    (weighing : Weighing) (system : System) (pairs : List Pair) (table : Table) → IsSelfCovering weighing system pairs table → (p : ℕ) (qs : List ℕ)
+    → IsOneOf pairs p qs
     → Rises (table p qs) → AreApart (table p qs)
     → ((e : Price) → Contains (table p qs) e → (formula : Formula) × Distinguishes system p qs formula × (price weighing formula ≡ e))
     → AreLeastPrices weighing system p qs (table p qs)

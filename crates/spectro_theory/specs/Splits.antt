@@ -38,7 +38,8 @@ pub record IsSplitAt (weighing : Weighing) (system : System) (p : ℕ) (qs : Lis
       → ((formula : Formula) × HasPlus clauses formula × Distinguishes system p (q ∷ []) formula)
       ⊎ ((formula : Formula) × HasMinus clauses formula × Distinguishes system q (p ∷ []) formula)
   -- what the positive clauses cost, of which at most one may be deeper than the others
-  pub plus_costs : (formula : Formula) → HasPlus clauses formula → Satisfies system p formula × IsAtMost (inverse conjoin (inverse to_deepest (price weighing formula))) e
+  pub plus_costs : (formula : Formula) → HasPlus clauses formula
+      → Satisfies system p formula × IsAtMost (inverse conjoin (inverse to_deepest (price weighing formula))) e
   pub others_cost : IsAboveOnceAtMost e.other_positive (positive_depths (priced_clauses weighing clauses))
   -- what the negative clauses cost
   pub minus_costs : (formula : Formula) → HasMinus clauses formula

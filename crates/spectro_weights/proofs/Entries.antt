@@ -17,7 +17,8 @@ abbrev pub Entry : Type 0
 Entry = String Global × ℕ
 
 -- what the map has at the label's bytes
-pub weight_of-weighing_of : (label : Label) (entries : List Entry) → weight_of (weighing_of entries) label ≡ unwrap_or (lookup (λ key. bytes_eq label (string_bytes key)) entries) 1
+pub weight_of-weighing_of : (label : Label) (entries : List Entry)
+    → weight_of (weighing_of entries) label ≡ unwrap_or (lookup (λ key. bytes_eq label (string_bytes key)) entries) 1
 weight_of-weighing_of label [] = refl
 weight_of-weighing_of label (entry ∷ entries) = by (bytes_eq label (string_bytes entry.0)) refl (weight_of-weighing_of label entries)
   where
@@ -27,7 +28,8 @@ weight_of-weighing_of label (entry ∷ entries) = by (bytes_eq label (string_byt
     by true e later = rw (nat_list_eq_equiv.symm (string_bytes entry.0) label, e) refl
     by false e later = rw (nat_list_eq_equiv.symm (string_bytes entry.0) label, e) later
 
-pub is_set-weighing_of : (label : Label) (entries : List Entry) → is_set (weighing_of entries) label ≡ is_some (lookup (λ key. bytes_eq label (string_bytes key)) entries)
+pub is_set-weighing_of : (label : Label) (entries : List Entry)
+    → is_set (weighing_of entries) label ≡ is_some (lookup (λ key. bytes_eq label (string_bytes key)) entries)
 is_set-weighing_of label [] = refl
 is_set-weighing_of label (entry ∷ entries) = by (bytes_eq label (string_bytes entry.0)) refl (is_set-weighing_of label entries)
   where
@@ -41,7 +43,8 @@ is_set-weighing_of label (entry ∷ entries) = by (bytes_eq label (string_bytes 
 pub weighing_of-insert_entry : (label : String Global) (weight : ℕ) (entries : List Entry)
     → weighing_of (insert_entry string_eq entries label weight) ≡ with_weight (weighing_of entries) (string_bytes label) weight
 weighing_of-insert_entry label weight [] = refl
-weighing_of-insert_entry label weight (entry ∷ entries) = by (bytes_eq (string_bytes label) (string_bytes entry.0)) refl (weighing_of-insert_entry label weight entries)
+weighing_of-insert_entry label weight (entry ∷ entries) = by (bytes_eq (string_bytes label) (string_bytes entry.0)) refl
+    (weighing_of-insert_entry label weight entries)
   where
     by : (b : Bool) → bytes_eq (string_bytes label) (string_bytes entry.0) ≡ b
         → weighing_of (insert_entry string_eq entries label weight) ≡ with_weight (weighing_of entries) (string_bytes label) weight
@@ -56,7 +59,8 @@ apart key [] all = all
 apart key (entry ∷ entries) all = (all.0, apart key entries all.1)
 
 -- the labels are as distinct as the keys
-pub IsDistinct-weighing_of : (entries : List Entry) → IsDistinct string_eq (keys_of entries) → IsDistinct bytes_eq (map (λ entry. entry.label) (weighing_of entries))
+pub IsDistinct-weighing_of : (entries : List Entry) → IsDistinct string_eq (keys_of entries)
+    → IsDistinct bytes_eq (map (λ entry. entry.label) (weighing_of entries))
 unfolding IsDistinct
 IsDistinct-weighing_of [] distinct = distinct
 IsDistinct-weighing_of (entry ∷ entries) distinct = (apart entry.0 entries distinct.0, IsDistinct-weighing_of entries distinct.1)

@@ -61,7 +61,11 @@ labelled line inside form =
       | inl quoted ↦ elim (cases_lt 255 (number_value (first_token line))) [
         | inl heavy ↦ inr (BadWeight, bad_weight (first_token line) inside quoted.0 form quoted.1 heavy refl)
         | inr light ↦
-            inl (record { label = quoted.0; weight = number_value (first_token line) }, record { digits = first_token line; inside = inside; form = form; label = quoted.1; weight = refl; light = light })
+            inl (
+              record { label = quoted.0; weight = number_value (first_token line) },
+              record
+                  { digits = first_token line; inside = inside; form = form; label = quoted.1; weight = refl; light = light },
+            )
       ]
       | inr none ↦ inr (BadLabel, bad_label (first_token line) inside form none refl)
     ]
@@ -74,7 +78,11 @@ entry-cases line =
         | inr none ↦ inr (BadLine, bad_line (λ digits inside is. none inside (in_quotes_is line digits inside is)) refl)
       ]
       | inr not_so ↦
-          inr (BadLine, bad_line (λ digits inside is. both_ways (is_number (first_token line)) not_so (ap is_number (token_is line digits inside is) ∙ is.number)) refl)
+          inr (
+            BadLine,
+            bad_line
+                (λ digits inside is. both_ways (is_number (first_token line)) not_so (ap is_number (token_is line digits inside is) ∙ is.number)) refl,
+          )
     ]
 
 place-cases : (weighing : Weighing) (found : Weight) → HasPlace weighing found ⊎ ((kind : WeightKind) × IsPlaceFault weighing found kind)

@@ -38,36 +38,43 @@ module _ (line digits inside : List ℕ) (is : IsWeightLine line digits inside) 
   whole = from_quote ∙ append_assoc (is.front ++ digits) is.gap quoted
 
   pub token_is : first_token line ≡ digits
-  token_is = first_token-word line is.front digits field whole is.blanks_before (number-IsWord digits is.number) (apart is.gap quoted is.blanks_between is.apart)
+  token_is = first_token-word line is.front digits field whole is.blanks_before (number-IsWord digits is.number)
+      (apart is.gap quoted is.blanks_between is.apart)
 
   after_is : after_token line ≡ field
-  after_is = after_token-word line is.front digits field whole is.blanks_before (number-IsWord digits is.number) (apart is.gap quoted is.blanks_between is.apart)
+  after_is = after_token-word line is.front digits field whole is.blanks_before (number-IsWord digits is.number)
+      (apart is.gap quoted is.blanks_between is.apart)
 
   pub in_quotes_is : IsInQuotes (trimmed (after_token line)) inside
   in_quotes_is = record { whole = ap trimmed after_is ∙ trimmed-quoted is.gap inside is.back is.blanks_between is.blanks_behind; closed = is.closed }
 
   pub inside-utf8 : IsUtf8 line → IsUtf8 inside
   inside-utf8 utf8 =
-      utf8_before inside 34 is.back (omega arith) (utf8_behind (is.front ++ digits ++ is.gap) 34 (inside ++ 34 ∷ is.back) (omega arith) (subst IsUtf8 from_quote utf8))
+      utf8_before inside 34 is.back (omega arith)
+      (utf8_behind (is.front ++ digits ++ is.gap) 34 (inside ++ 34 ∷ is.back) (omega arith) (subst IsUtf8 from_quote utf8))
 
 -- the parts of a line are one
 pub digits-once : (line digits others inside other : List ℕ) → IsWeightLine line digits inside → IsWeightLine line others other → digits ≡ others
 digits-once line digits others inside other one two = sym (token_is line digits inside one) ∙ token_is line others other two
 
 pub inside-once : (line digits others inside other : List ℕ) → IsWeightLine line digits inside → IsWeightLine line others other → inside ≡ other
-inside-once line digits others inside other one two = in_quotes-once (trimmed (after_token line)) inside other (in_quotes_is line digits inside one) (in_quotes_is line others other two)
+inside-once line digits others inside other one two = in_quotes-once (trimmed (after_token line)) inside other (in_quotes_is line digits inside one)
+    (in_quotes_is line others other two)
 
 pub entry-once : (line : List ℕ) (entry other : Weight) → IsEntryLine line entry → IsEntryLine line other → entry ≡ other
 entry-once line entry other one two =
     let digits : one.digits ≡ two.digits = digits-once line one.digits two.digits one.inside two.inside one.form two.form in
     let inside : one.inside ≡ two.inside = inside-once line one.digits two.digits one.inside two.inside one.form two.form in
-    let label : entry.label ≡ other.label = label-once two.inside entry.label other.label (subst (λ inside. IsQuoted inside entry.label) inside one.label) two.label in
+    let label : entry.label ≡ other.label = label-once two.inside entry.label other.label
+    (subst (λ inside. IsQuoted inside entry.label) inside one.label) two.label in
     let weight : entry.weight ≡ other.weight = one.weight ∙ ap number_value digits ∙ sym two.weight in
-    let same : ◌≡◌ {A = Weight} (record { label = entry.label; weight = entry.weight }) (record { label = other.label; weight = other.weight }) = rw (label, weight) refl in
+    let same : ◌≡◌ {A = Weight} (record { label = entry.label; weight = entry.weight }) (record { label = other.label; weight = other.weight }) = rw
+    (label, weight) refl in
     same
 
 -- a token that is a number, and behind it a text in quotes, are a line
-pub found-IsWeightLine : (line inside : List ℕ) → is_number (first_token line) ≡ true → IsInQuotes (trimmed (after_token line)) inside → IsWeightLine line (first_token line) inside
+pub found-IsWeightLine : (line inside : List ℕ) → is_number (first_token line) ≡ true → IsInQuotes (trimmed (after_token line)) inside
+    → IsWeightLine line (first_token line) inside
 found-IsWeightLine line inside number quoted = by (after_token line) refl
   where
     parts : HasToken line
@@ -83,7 +90,8 @@ found-IsWeightLine line inside number quoted = by (after_token line) refl
         let field : List ℕ = 34 ∷ inside ++ 34 ∷ last.back in
         let gap : List ℕ = byte ∷ last.front in
         let behind : after_token line ≡ gap ++ field =
-        is ∙ ap (λ l. byte ∷ l) (last.whole ∙ ap (λ l. last.front ++ (l ++ last.back)) kept ∙ ap (λ l. last.front ++ l) (append_assoc (34 ∷ inside) (34 ∷ []) last.back)) in
+        is ∙ ap (λ l. byte ∷ l) (last.whole ∙ ap (λ l. last.front ++ (l ++ last.back)) kept
+        ∙ ap (λ l. last.front ++ l) (append_assoc (34 ∷ inside) (34 ∷ []) last.back)) in
         record {
           front = parts.front;
           gap = gap;

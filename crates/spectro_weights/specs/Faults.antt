@@ -11,8 +11,10 @@ use Rattle.spectro_weights.specs.declared.error.WeightKind.TheVariants.{BadLine,
 -- the line has no label with a weight
 pub data IsEntryFault (line : List ℕ) (kind : WeightKind) : Type 0 where
   bad_line : ((digits inside : List ℕ) → ¬ IsWeightLine line digits inside) → kind ≡ BadLine → IsEntryFault line kind
-  bad_label : (digits inside : List ℕ) → IsWeightLine line digits inside → ((label : List ℕ) → ¬ IsQuoted inside label) → kind ≡ BadLabel → IsEntryFault line kind
-  bad_weight : (digits inside label : List ℕ) → IsWeightLine line digits inside → IsQuoted inside label → 255 < number_value digits → kind ≡ BadWeight → IsEntryFault line kind
+  bad_label : (digits inside : List ℕ) → IsWeightLine line digits inside → ((label : List ℕ) → ¬ IsQuoted inside label) → kind ≡ BadLabel
+      → IsEntryFault line kind
+  bad_weight : (digits inside label : List ℕ) → IsWeightLine line digits inside → IsQuoted inside label → 255 < number_value digits → kind ≡ BadWeight
+      → IsEntryFault line kind
 
 -- there is no place for the entry behind the others
 pub data IsPlaceFault (weighing : Weighing) (entry : Weight) (kind : WeightKind) : Type 0 where

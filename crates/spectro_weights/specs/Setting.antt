@@ -12,7 +12,8 @@ is_set weighing label = list_any (λ entry. bytes_eq entry.label label) weighing
 -- the label has this weight in place of its own, or stands with it behind the others
 abbrev pub with_weight : Weighing → Label → ℕ → Weighing
 with_weight [] label weight = record { label = label; weight = weight } ∷ []
-with_weight (entry ∷ weighing) label weight = if bytes_eq entry.label label then record { label = entry.label; weight = weight } ∷ weighing else entry ∷ with_weight weighing label weight
+with_weight (entry ∷ weighing) label weight = if bytes_eq entry.label label then record { label = entry.label; weight = weight } ∷ weighing else entry ∷
+    with_weight weighing label weight
 
 -- no label stands twice, there are few, and each weight is one of a weighing
 pub record AreWeights (weighing : Weighing) : Type 0 where

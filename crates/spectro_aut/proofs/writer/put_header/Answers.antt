@@ -10,20 +10,24 @@ use Rattle.spectro_aut.proofs.writer.put_header.Goals as goal
 pub returns-in_err-put_field-clause-bytes : goal.returns-in_err-put_field-clause-bytes
 returns-in_err-put_field-clause-bytes g c =
     let p = err_from_is_err_and c.from_residual.result c.from_residual.ensures.1 in
-    rw p.1 (subst (AppendsPart _ _) (sym (header-pieces c.args.batch.now c.args.lts.now)) (AppendsPart-front _ _ _ _ (AppendsPart-front _ _ _ _ (AppendsPart-front _ _ _ _ (rw c.initial.ensures.value at c.in_err-put_field.ensures.bytes)))))
+    rw p.1 (subst (AppendsPart _ _) (sym (header-pieces c.args.batch.now c.args.lts.now))
+    (AppendsPart-front _ _ _ _ (AppendsPart-front _ _ _ _ (AppendsPart-front _ _ _ _ (rw c.initial.ensures.value at c.in_err-put_field.ensures.bytes)))))
 
 pub returns-in_err-put_field-2-clause-bytes : goal.returns-in_err-put_field-2-clause-bytes
 returns-in_err-put_field-2-clause-bytes g c =
     let p = err_from_is_err_and c.from_residual-in_err-put_field-2.result c.from_residual-in_err-put_field-2.ensures.1 in
     let first = rw c.initial.ensures.value at c.in_ok-put_field.ensures.bytes in
-    rw p.1 (subst (AppendsPart _ _) (sym (header-pieces c.args.batch.now c.args.lts.now)) (AppendsPart-front _ _ _ _ (AppendsPart-front _ _ _ _ (pending-part _ _ _ _ _ _ first (rw c.step_count.ensures.value at c.in_err-put_field-2.ensures.bytes)))))
+    rw p.1 (subst (AppendsPart _ _) (sym (header-pieces c.args.batch.now c.args.lts.now))
+    (AppendsPart-front _ _ _ _
+    (AppendsPart-front _ _ _ _ (pending-part _ _ _ _ _ _ first (rw c.step_count.ensures.value at c.in_err-put_field-2.ensures.bytes)))))
 
 pub returns-in_err-put_field-3-clause-bytes : goal.returns-in_err-put_field-3-clause-bytes
 returns-in_err-put_field-3-clause-bytes g c =
     let p = err_from_is_err_and c.from_residual-in_err-put_field-3.result c.from_residual-in_err-put_field-3.ensures.1 in
     let first = rw c.initial.ensures.value at c.in_ok-put_field.ensures.bytes in
     let second = pending-more _ _ _ _ _ _ _ first (rw c.step_count.ensures.value at c.in_ok-put_field-2.ensures.bytes) in
-    rw p.1 (subst (AppendsPart _ _) (sym (header-pieces c.args.batch.now c.args.lts.now)) (AppendsPart-front _ _ _ _ (pending-part _ _ _ _ _ _ second (rw c.states.ensures.value at c.in_err-put_field-3.ensures.bytes))))
+    rw p.1 (subst (AppendsPart _ _) (sym (header-pieces c.args.batch.now c.args.lts.now))
+    (AppendsPart-front _ _ _ _ (pending-part _ _ _ _ _ _ second (rw c.states.ensures.value at c.in_err-put_field-3.ensures.bytes))))
 
 pub returns-clause-bytes : goal.returns-clause-bytes
 returns-clause-bytes g c =

@@ -20,20 +20,25 @@ returns-in_err-put_header-clause-bytes g c =
 pub returns-in_err-put_step-clause-bytes : goal.returns-in_err-put_step-clause-bytes
 returns-in_err-put_step-clause-bytes g c =
     let p = err_from_is_err_and c.from_residual-in_err-put_step.result c.from_residual-in_err-put_step.ensures.1 in
-    let step = step-at c.args.lts.now.steps c.loop-k.k c.step-step.result.from c.step-step.result.label c.step-step.result.to c.label.result.now c.step-step.ensures.step c.label.ensures.label in
-    rw p.1 (puts-stopped _ _ _ _ _ _ _ _ (steps-parts (header_text c.args.lts.now) c.args.lts.now.steps c.loop-k.k _ step) c.loop-k.invariant.bytes c.in_err-put_step.ensures.bytes)
+    let step = step-at c.args.lts.now.steps c.loop-k.k c.step-step.result.from c.step-step.result.label c.step-step.result.to c.label.result.now
+    c.step-step.ensures.step c.label.ensures.label in
+    rw p.1 (puts-stopped _ _ _ _ _ _ _ _
+    (steps-parts (header_text c.args.lts.now) c.args.lts.now.steps c.loop-k.k _ step) c.loop-k.invariant.bytes c.in_err-put_step.ensures.bytes)
 
 -- one step more is out or held
 pub loop-k-preserved : goal.loop-k-preserved
 loop-k-preserved g c =
-    let step = step-at c.args.lts.now.steps c.loop-k.k c.step-step.result.from c.step-step.result.label c.step-step.result.to c.label.result.now c.step-step.ensures.step c.label.ensures.label in
+    let step = step-at c.args.lts.now.steps c.loop-k.k c.step-step.result.from c.step-step.result.label c.step-step.result.to c.label.result.now
+    c.step-step.ensures.step c.label.ensures.label in
     record {
-      bytes = subst (IsPending _ _ _) (steps-more (header_text c.args.lts.now) c.args.lts.now.steps c.loop-k.k _ step) (pending-more _ _ _ _ _ _ _ c.loop-k.invariant.bytes c.in_ok-put_step.ensures.bytes);
+      bytes = subst (IsPending _ _ _) (steps-more (header_text c.args.lts.now) c.args.lts.now.steps c.loop-k.k _ step)
+          (pending-more _ _ _ _ _ _ _ c.loop-k.invariant.bytes c.in_ok-put_step.ensures.bytes);
       faults = c.in_ok-put_step.ensures.cause.kept ∙ c.loop-k.invariant.faults;
     }
 
 -- all that was held is out
 pub returns-clause-bytes : goal.returns-clause-bytes
 returns-clause-bytes g c =
-    let all : take c.loop-k.k c.args.lts.now.steps ≡ c.args.lts.now.steps = take_all c.loop-k.k c.args.lts.now.steps (omega (arith, c.step_count-k-end.ensures.value)) in
+    let all : take c.loop-k.k c.args.lts.now.steps ≡ c.args.lts.now.steps = take_all c.loop-k.k c.args.lts.now.steps
+    (omega (arith, c.step_count-k-end.ensures.value)) in
     pending-whole _ _ _ _ _ _ (rw all at c.loop-k.invariant.bytes) c.flush.ensures.bytes

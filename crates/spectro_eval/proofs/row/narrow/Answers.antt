@@ -14,7 +14,9 @@ loop-k-preserved c =
       | else-positive w ↦ w.row-is ∙ ap (λ positive. signed positive part) (sym w.if-positive.false)
     ] in
     let word = get_or c.loop-k.row c.loop-k.k 0 in
-    has_met_more c.args.positive c.args.part.now c.args.row.now c.loop-k.k c.loop-k.row (bit_and word c.if-positive.row) c.loop-k.invariant (omega arith) (ap (bit_and word) sign)
+    has_met_more c.args.positive c.args.part.now c.args.row.now c.loop-k.k c.loop-k.row (bit_and word c.if-positive.row) c.loop-k.invariant (omega arith)
+    (ap (bit_and word) sign)
 
 pub returns : goal.returns
-returns c = λ state within. meets c.args.positive c.args.part.now c.args.row.now c.loop-k.row c.loop-k.k c.loop-k.invariant (omega arith) (λ j. c.type_inv.part j) state within
+returns c = λ state within. meets c.args.positive c.args.part.now c.args.row.now c.loop-k.row c.loop-k.k c.loop-k.invariant (omega arith)
+    (λ j. c.type_inv.part j) state within

@@ -5,4 +5,5 @@ use Rattle.spectro_eval.proofs.Meets.{HasSign}
 use Rattle.spectro_eval.proofs.row.write_conjunction.Given as goal
 
 abbrev pub invariant-loop-clause : goal.invariant-loop-clause
-invariant-loop-clause l = (state : ℕ) → state / 64 < length l.fn.row → IsTrue (bit_of l.row state) ↔ All (HasSign l.rows (length l.fn.row) state) (take l.clause-index l.clauses)
+invariant-loop-clause l = (state : ℕ) → state / 64 < length l.fn.row
+    → IsTrue (bit_of l.row state) ↔ All (HasSign l.rows (length l.fn.row) state) (take l.clause-index l.clauses)

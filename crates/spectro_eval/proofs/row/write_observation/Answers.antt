@@ -9,17 +9,20 @@ pub loop-step-init : goal.loop-step-init
 loop-step-init c =
     let states = c.args.lts.now.states in
     let table = bits_of states c.args.next.now in
-    let clear : bits_of states c.fill.new.self ≡ replicate states false = ap (bits_of states) (c.fill.ensures.after (λ y e. e)) ∙ bits_of-zeros states (length c.args.row.now) in
+    let clear : bits_of states c.fill.new.self ≡ replicate states false = ap (bits_of states) (c.fill.ensures.after (λ y e. e))
+    ∙ bits_of-zeros states (length c.args.row.now) in
     subst (IsMarked _ table) (sym clear) (marked_none table states)
 
 pub bit_of-requires : goal.bit_of-requires
 bit_of-requires c =
-    let step = are_states c.args.lts.now c.args.label.now c.under-step-items.result.now c.loop-step.step-index c.requires.whole c.under-step-items.ensures (omega arith) in
+    let step = are_states c.args.lts.now c.args.label.now c.under-step-items.result.now c.loop-step.step-index c.requires.whole c.under-step-items.ensures
+    (omega arith) in
     omega (arith, step.to)
 
 pub mark-requires : goal.mark-requires
 mark-requires c =
-    let step = are_states c.args.lts.now c.args.label.now c.under-step-items.result.now c.loop-step.step-index c.requires.whole c.under-step-items.ensures (omega arith) in
+    let step = are_states c.args.lts.now c.args.label.now c.under-step-items.result.now c.loop-step.step-index c.requires.whole c.under-step-items.ensures
+    (omega arith) in
     omega (arith, step.from, c.loop-step.auto.row, c.fill.ensures.len)
 
 pub loop-step-preserved : goal.loop-step-preserved
@@ -30,7 +33,8 @@ loop-step-preserved c =
     let step = are_states c.args.lts.now c.args.label.now ends c.loop-step.step-index c.requires.whole c.under-step-items.ensures (omega arith) in
     let read = bits_of-get states c.args.next.now _ step.to in
     let old = c.loop-step.invariant in
-    rw (c.mark.ensures states) (marked_more ends c.loop-step.step-index table (bits_of states c.loop-step.row) c.bit_of.result (omega arith) old (read ∙ sym c.bit_of.ensures))
+    rw (c.mark.ensures states)
+    (marked_more ends c.loop-step.step-index table (bits_of states c.loop-step.row) c.bit_of.result (omega arith) old (read ∙ sym c.bit_of.ensures))
 
 pub returns : goal.returns
 returns c =

@@ -8,4 +8,5 @@ pub returns-in_default : goal.returns-in_default
 returns-in_default c =
     let quote : c.args.letter ≢ 34 = omega arith in
     let backslash : c.args.letter ≢ 92 = omega arith in
-    rw (escaped-letter c.args.letter quote backslash) (letter-put c.push.result (string_bytes c.args.text.now) _ (encode_utf8 c.args.letter) c.push.ensures.bytes)
+    rw (escaped-letter c.args.letter quote backslash)
+    (letter-put c.push.result (string_bytes c.args.text.now) _ (encode_utf8 c.args.letter) c.push.ensures.bytes)

@@ -5,4 +5,5 @@ use Rattle.spectro_hmltext.proofs.label.push_label.Goals as goal
 
 pub loop-letter-preserved : goal.loop-letter-preserved
 loop-letter-preserved c =
-    letters-more (string_bytes c.args.text.now ++ 34 ∷ []) (string_bytes c.loop-letter.text) (string_bytes c.push_escaped.new.text) c.loop-letter.yielded c.in-Some.letter c.loop-letter.invariant c.in_ok-push_escaped.ensures
+    letters-more (string_bytes c.args.text.now ++ 34 ∷ []) (string_bytes c.loop-letter.text)
+    (string_bytes c.push_escaped.new.text) c.loop-letter.yielded c.in-Some.letter c.loop-letter.invariant c.in_ok-push_escaped.ensures

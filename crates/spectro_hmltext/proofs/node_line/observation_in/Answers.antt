@@ -14,16 +14,25 @@ returns-in_err-inside c = rw c.from_residual.ensures (λ inside next is. c.in_er
 pub returns-in_err-next : goal.returns-in_err-next
 returns-in_err-next c =
     rw c.from_residual-in_err-next.ensures
-    (no_next c.args.text.now c.in_ok-inside.inside.now c.in_ok-inside.rest.now c.in_ok-inside.ensures (c.in_err-next.ensures ∙ ap number_of c.token_at.ensures.token))
+    (no_next c.args.text.now c.in_ok-inside.inside.now c.in_ok-inside.rest.now c.in_ok-inside.ensures
+    (c.in_err-next.ensures ∙ ap number_of c.token_at.ensures.token))
 
 pub returns-then-not-is_empty : goal.returns-then-not-is_empty
 returns-then-not-is_empty c =
     no_end c.args.text.now c.in_ok-inside.inside.now c.in_ok-inside.rest.now c.in_ok-inside.ensures
-    (λ blank. both_ways c.is_empty.result c.if-not-is_empty.true ((blank_test (after_token c.in_ok-inside.rest.now) c.trim_start.result.now c.is_empty.result (c.trim_start.ensures ∙ ap skip_blanks c.token_at.ensures.rest) c.is_empty.ensures).1 blank))
+    (λ blank. both_ways c.is_empty.result c.if-not-is_empty.true
+    ((blank_test (after_token c.in_ok-inside.rest.now) c.trim_start.result.now c.is_empty.result
+    (c.trim_start.ensures ∙ ap skip_blanks c.token_at.ensures.rest) c.is_empty.ensures).1 blank))
 
 pub returns : goal.returns
 returns c =
     let number = number_of-found (first_token c.in_ok-inside.rest.now) c.in_ok-next.next (c.in_ok-next.ensures ∙ ap number_of c.token_at.ensures.token) in
     let end : AreBlanks (after_token c.in_ok-inside.rest.now) =
-    (blank_test (after_token c.in_ok-inside.rest.now) c.trim_start.result.now c.is_empty.result (c.trim_start.ensures ∙ ap skip_blanks c.token_at.ensures.rest) c.is_empty.ensures).0 c.if-not-is_empty.false in
-    record { next = _; is = found-observation c.args.text.now c.in_ok-inside.inside.now c.in_ok-inside.rest.now c.in_ok-inside.ensures number.0 end; value = number.1 }
+    (blank_test (after_token c.in_ok-inside.rest.now) c.trim_start.result.now c.is_empty.result
+    (c.trim_start.ensures ∙ ap skip_blanks c.token_at.ensures.rest) c.is_empty.ensures).0 c.if-not-is_empty.false in
+    record {
+      next = _;
+      is = found-observation c.args.text.now c.in_ok-inside.inside.now c.in_ok-inside.rest.now c.in_ok-inside.ensures number.0 end;
+      value =
+          number.1;
+    }

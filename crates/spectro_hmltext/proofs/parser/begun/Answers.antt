@@ -15,13 +15,16 @@ known token begins = elim begins [ inl truth ↦ λ e. cc | inr others ↦ elim 
 pub returns-then-not-begins_formula-clause-stopped : goal.returns-then-not-begins_formula-clause-stopped
 returns-then-not-begins_formula-clause-stopped c =
     let text = c.args.text.now in
-    let none : ¬ BeginsFormula (token_of text) = λ begins. true≢false (sym (c.begins_formula.ensures.1 (subst BeginsFormula (sym c.token_at-token.ensures.token) begins)) ∙ c.if-not-begins_formula.true) in
-    StopsAt-weaker (IsMisplaced text) (λ left kind. IsFormulaFault left kind c.args.nesting text) (λ left kind is. IsFormulaFault.no_formula c.args.nesting text none is) c.misplaced.result c.misplaced.ensures
+    let none : ¬ BeginsFormula (token_of text) = λ begins. true≢false
+    (sym (c.begins_formula.ensures.1 (subst BeginsFormula (sym c.token_at-token.ensures.token) begins)) ∙ c.if-not-begins_formula.true) in
+    StopsAt-weaker (IsMisplaced text) (λ left kind. IsFormulaFault left kind c.args.nesting text)
+    (λ left kind is. IsFormulaFault.no_formula c.args.nesting text none is) c.misplaced.result c.misplaced.ensures
 
 pub returns-then-nesting-gt-MAX_NESTING-clause-stopped : goal.returns-then-nesting-gt-MAX_NESTING-clause-stopped
 returns-then-nesting-gt-MAX_NESTING-clause-stopped c =
     let text = c.args.text.now in
-    let begins : BeginsFormula (token_of text) = subst BeginsFormula c.token_at-token.ensures.token (c.begins_formula.ensures.0 c.if-not-begins_formula.false) in
+    let begins : BeginsFormula (token_of text) = subst BeginsFormula c.token_at-token.ensures.token
+    (c.begins_formula.ensures.0 c.if-not-begins_formula.false) in
     (skip_blanks text, ap length (sym c.trim_start.ensures), IsFormulaFault.too_deep c.args.nesting text begins c.if-nesting-gt-MAX_NESTING.true refl refl)
 
 pub returns-clause-ok : goal.returns-clause-ok

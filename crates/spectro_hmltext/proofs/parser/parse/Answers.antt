@@ -18,4 +18,5 @@ returns-in-Err-Fault-clause-refused c =
     let kind = c.in-Err-Fault.kind in
     let short : length bytes ≤ 65536 = omega arith in
     let stops : StopsAt (IsTextFault bytes) (Fault left kind) = subst (StopsAt (IsTextFault bytes)) c.in-Err-Fault.field-0-is c.in-Err-Fault.ensures.stopped in
-    subst (λ text. IsFirstFault text (record { at = length bytes - left; kind = kind })) c.as_bytes-bytes.ensures.value (IsFirstFault-stopped bytes left kind (length bytes - left) short stops refl)
+    subst (λ text. IsFirstFault text (record { at = length bytes - left; kind = kind })) c.as_bytes-bytes.ensures.value
+    (IsFirstFault-stopped bytes left kind (length bytes - left) short stops refl)

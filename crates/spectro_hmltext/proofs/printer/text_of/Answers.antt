@@ -9,6 +9,7 @@ loop-rest-smaller c = rests-shorter c.args.sheet.now c.in-Some.rest _ _ _ _ _ c.
 
 pub loop-rest-preserved : goal.loop-rest-preserved
 loop-rest-preserved c = record {
-  whole = whole-kept c.args.sheet.now c.in-Some.rest _ _ _ _ _ c.in_ok-write_rest.ensures c.in-Some.ensures.items (formula_text (unfolded c.args.sheet.now c.args.node)) c.loop-rest.invariant.whole;
+  whole = whole-kept c.args.sheet.now c.in-Some.rest _ _ _ _ _ c.in_ok-write_rest.ensures c.in-Some.ensures.items
+      (formula_text (unfolded c.args.sheet.now c.args.node)) c.loop-rest.invariant.whole;
   named = named-kept c.args.sheet.now c.in-Some.rest _ _ _ _ _ c.in_ok-write_rest.ensures c.in-Some.ensures.items c.loop-rest.invariant.named;
 }

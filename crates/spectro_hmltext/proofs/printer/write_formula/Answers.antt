@@ -11,12 +11,14 @@ pub returns-in-See : goal.returns-in-See
 returns-in-See c =
     let below = c.in-See.ensures.names.1 in
     leaves-front c.args.sheet.now _ _ _ _ c.write_observation.result _ _ _ c.write_observation.ensures.written c.write_observation.ensures.left
-    (see-pieces c.args.sheet.now c.args.node c.in-See.label.now c.in-See.next c.in-See.ensures.node below) (omega arith) (one-named c.args.sheet.now (Formula c.in-See.next) (omega (arith, below, c.requires)))
+    (see-pieces c.args.sheet.now c.args.node c.in-See.label.now c.in-See.next c.in-See.ensures.node below) (omega arith)
+    (one-named c.args.sheet.now (Formula c.in-See.next) (omega (arith, below, c.requires)))
 
 -- a conjunction of no clauses
 pub returns-in-All-empty : goal.returns-in-All-empty
 returns-in-All-empty c =
-    subst (λ text. OnOk c.push_str.result (Leaves c.args.sheet.now text (string_bytes c.args.text.now) (string_bytes c.push_str.new.self) c.args.rests.now.items c.args.rests.now.items))
+    subst (λ text. OnOk c.push_str.result
+    (Leaves c.args.sheet.now text (string_bytes c.args.text.now) (string_bytes c.push_str.new.self) c.args.rests.now.items c.args.rests.now.items))
     (sym (truth-text c.args.sheet.now c.args.node c.in-All-empty.clauses.now c.in-All-empty.ensures.node c.in-All-empty.len_below))
     (leaves-none c.args.sheet.now (codes "tt") _ _ _ c.push_str.result c.push_str.ensures.bytes (omega arith))
 

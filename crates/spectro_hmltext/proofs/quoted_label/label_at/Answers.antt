@@ -13,7 +13,8 @@ use Rattle.spectro_hmltext.proofs.TokenLaws.{quote_Begins, utf8_Begins}
 use Rattle.spectro_hmltext.proofs.quoted_label.label_at.Goals as goal
 
 -- what is valid is read
-accepted : {A E : Type 0} (valid : Type 0) (read : Result A E) (P : A → Type 0) (Q : E → Type 0) → valid → MatchResult read (λ text. P text × valid) (λ fault. (valid → ⊥) × Q fault) → IsOk read
+accepted : {A E : Type 0} (valid : Type 0) (read : Result A E) (P : A → Type 0) (Q : E → Type 0) → valid
+    → MatchResult read (λ text. P text × valid) (λ fault. (valid → ⊥) × Q fault) → IsOk read
 accepted valid (Ok text) P Q holds cases = refl
 accepted valid (Err fault) P Q holds cases = absurd (cases.0 holds)
 
@@ -30,7 +31,8 @@ returns-in_err-end-clause-stopped c =
     let text = c.args.text.now in
     let inside = c.in_ok-inside.inside.now in
     let p = err_from_is_err_and c.from_residual-in_err-end.result c.from_residual-in_err-end.ensures.1 in
-    rw (p.1, p.2) (StopsAt-weaker (IsCutBehind inside) (IsLabelFault text) (fault_where_cut text inside (quote_Begins text inside c.in_ok-inside.ensures.ok)) c.in_err-end.field-0.0 c.in_err-end.ensures.stopped)
+    rw (p.1, p.2) (StopsAt-weaker (IsCutBehind inside) (IsLabelFault text)
+    (fault_where_cut text inside (quote_Begins text inside c.in_ok-inside.ensures.ok)) c.in_err-end.field-0.0 c.in_err-end.ensures.stopped)
 
 pub unwrap-quoted-requires : goal.unwrap-quoted-requires
 unwrap-quoted-requires c =
@@ -44,7 +46,8 @@ unwrap-label-requires c =
     let inside = c.in_ok-inside.inside.now in
     let told = rw c.unwrap-quoted.ensures at c.from_utf8.ensures.cases in
     let front : c.unwrap-quoted.result.now ≡ take c.in_ok-end.end inside = told.0 in
-    some_from_cases c.in_ok-unquoted.field-0 _ _ c.in_ok-unquoted.ensures (λ none. none c.in_ok-end.ensures.ok.label (rw front (quoted_where_closed inside c.in_ok-end.end c.in_ok-end.ensures.ok)))
+    some_from_cases c.in_ok-unquoted.field-0 _ _ c.in_ok-unquoted.ensures
+    (λ none. none c.in_ok-end.ensures.ok.label (rw front (quoted_where_closed inside c.in_ok-end.end c.in_ok-end.ensures.ok)))
 
 pub returns-clause-ok : goal.returns-clause-ok
 returns-clause-ok c =
@@ -53,4 +56,5 @@ returns-clause-ok c =
     let told = rw c.unwrap-quoted.ensures at c.from_utf8.ensures.cases in
     let front : c.unwrap-quoted.result.now ≡ take c.in_ok-end.end inside = told.0 in
     let is : IsQuoted c.unwrap-quoted.result.now (string_bytes c.unwrap-label.result) = rw c.unwrap-label.ensures at c.in_ok-unquoted.ensures in
-    stands_where_closed text inside (quote_Begins text inside c.in_ok-inside.ensures.ok) c.in_ok-end.end c.in_ok-end.ensures.ok c.unwrap-quoted.result.now (string_bytes c.unwrap-label.result) _ front (rest_of (c.in_ok-end.end + 1) inside) is
+    stands_where_closed text inside (quote_Begins text inside c.in_ok-inside.ensures.ok) c.in_ok-end.end c.in_ok-end.ensures.ok c.unwrap-quoted.result.now
+    (string_bytes c.unwrap-label.result) _ front (rest_of (c.in_ok-end.end + 1) inside) is

@@ -10,7 +10,8 @@ returns-in_err-taken-clause-stopped c =
     let rest = c.loop-taken.rest.now in
     let bytes = c.loop-taken.bytes in
     let p = err_from_is_err_and c.from_residual.result c.from_residual.ensures.1 in
-    rw (p.1, p.2) (StopsAt-weaker (IsCharacterFault rest bytes) (IsCutBehind inside) (IsCutBehind-walked inside bytes rest c.loop-taken.invariant) c.in_err-taken.field-0.0 c.in_err-taken.ensures.stopped)
+    rw (p.1, p.2) (StopsAt-weaker (IsCharacterFault rest bytes) (IsCutBehind inside)
+    (IsCutBehind-walked inside bytes rest c.loop-taken.invariant) c.in_err-taken.field-0.0 c.in_err-taken.ensures.stopped)
 
 pub loop-taken-preserved : goal.loop-taken-preserved
 loop-taken-preserved c =

@@ -12,7 +12,8 @@ returns-then-not-is_escaped-clause-stopped c =
     let rest : List ℕ = take (length text - 2) (drop 2 text) in
     let cut : text ≡ 92 ∷ get_or text 1 0 ∷ rest = two_bytes text c.requires.escape.0 c.requires.escape.1 c.in-len2-up.len_at_least in
     let plain : is_escaped (get_or text 1 0) ≡ false = sym c.is_escaped.ensures ∙ c.if-not-is_escaped.true in
-    subst (StopsAt (IsCharacterFault text c.args.bytes)) (sym c.bad_label.ensures) (text, refl, no_escape-fault text (get_or text 1 0) rest cut c.args.bytes plain)
+    subst (StopsAt (IsCharacterFault text c.args.bytes)) (sym c.bad_label.ensures)
+    (text, refl, no_escape-fault text (get_or text 1 0) rest cut c.args.bytes plain)
 
 pub returns-clause-ok : goal.returns-clause-ok
 returns-clause-ok c =
@@ -20,7 +21,8 @@ returns-clause-ok c =
     let rest : List ℕ = take (length text - 2) (drop 2 text) in
     let cut : text ≡ 92 ∷ get_or text 1 0 ∷ rest = two_bytes text c.requires.escape.0 c.requires.escape.1 c.in-len2-up.len_at_least in
     let special : is_escaped (get_or text 1 0) ≡ true = sym c.is_escaped.ensures ∙ c.if-not-is_escaped.false in
-    taken_within text rest c.args.bytes (c.args.bytes + 1) c.within.result c.within.ensures.ok (escape-IsTaken text (get_or text 1 0) rest cut c.args.bytes special c.requires.utf8)
+    taken_within text rest c.args.bytes (c.args.bytes + 1) c.within.result c.within.ensures.ok
+    (escape-IsTaken text (get_or text 1 0) rest cut c.args.bytes special c.requires.utf8)
 
 pub returns-clause-stopped : goal.returns-clause-stopped
 returns-clause-stopped c =
@@ -28,4 +30,5 @@ returns-clause-stopped c =
     let rest : List ℕ = take (length text - 2) (drop 2 text) in
     let cut : text ≡ 92 ∷ get_or text 1 0 ∷ rest = two_bytes text c.requires.escape.0 c.requires.escape.1 c.in-len2-up.len_at_least in
     let special : is_escaped (get_or text 1 0) ≡ true = sym c.is_escaped.ensures ∙ c.if-not-is_escaped.false in
-    IfErr-StopsAt-weaker (IsTooLong text (c.args.bytes + 1)) (IsCharacterFault text c.args.bytes) (escape-too_long text (get_or text 1 0) rest cut c.args.bytes special) c.within.result c.within.ensures.stopped
+    IfErr-StopsAt-weaker (IsTooLong text (c.args.bytes + 1)) (IsCharacterFault text c.args.bytes)
+    (escape-too_long text (get_or text 1 0) rest cut c.args.bytes special) c.within.result c.within.ensures.stopped

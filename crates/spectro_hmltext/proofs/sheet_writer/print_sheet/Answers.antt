@@ -10,12 +10,14 @@ use Rattle.spectro_hmltext.proofs.sheet_writer.print_sheet.Goals as goal
 pub returns-in_err-put_node-clause-bytes : goal.returns-in_err-put_node-clause-bytes
 returns-in_err-put_node-clause-bytes g c =
     let p = err_from_is_err_and c.from_residual.result c.from_residual.ensures.1 in
-    rw p.1 (puts-stopped _ _ _ _ _ _ _ _ (nodes-parts c.args.sheet.now c.loop-k.k _ c.node.ensures.node) c.loop-k.invariant.bytes c.in_err-put_node.ensures.bytes)
+    rw p.1 (puts-stopped _ _ _ _ _ _ _ _
+    (nodes-parts c.args.sheet.now c.loop-k.k _ c.node.ensures.node) c.loop-k.invariant.bytes c.in_err-put_node.ensures.bytes)
 
 -- one line more is out or held
 pub loop-k-preserved : goal.loop-k-preserved
 loop-k-preserved g c = record {
-  bytes = subst (IsPending _ _ _) (nodes-more c.args.sheet.now c.loop-k.k _ c.node.ensures.node) (pending-more _ _ _ _ _ _ _ c.loop-k.invariant.bytes c.in_ok-put_node.ensures.bytes);
+  bytes = subst (IsPending _ _ _) (nodes-more c.args.sheet.now c.loop-k.k _ c.node.ensures.node)
+      (pending-more _ _ _ _ _ _ _ c.loop-k.invariant.bytes c.in_ok-put_node.ensures.bytes);
   faults = c.in_ok-put_node.ensures.cause.kept ∙ c.loop-k.invariant.faults;
 }
 

@@ -12,17 +12,23 @@ use Rattle.spectro_hmltext.proofs.sheet_writer.put_conjunction.Goals as goal
 pub returns-in_err-put_clause-clause-bytes : goal.returns-in_err-put_clause-clause-bytes
 returns-in_err-put_clause-clause-bytes g c =
     let p = err_from_is_err_and c.from_residual-in_err-put_clause.result c.from_residual-in_err-put_clause.ensures.1 in
-    rw p.1 (puts-stopped _ _ _ _ _ _ _ _ (conjunction-parts c.args.batch.now c.args.number c.args.clauses.now c.loop-clause.clause-index _ c.loop-clause-test.true) c.loop-clause.invariant.bytes c.in_err-put_clause.ensures.bytes)
+    rw p.1 (puts-stopped _ _ _ _ _ _ _ _
+    (conjunction-parts c.args.batch.now c.args.number c.args.clauses.now c.loop-clause.clause-index _ c.loop-clause-test.true)
+    c.loop-clause.invariant.bytes c.in_err-put_clause.ensures.bytes)
 
 -- one clause more is out or held
 pub loop-clause-preserved : goal.loop-clause-preserved
 loop-clause-preserved g c = record {
-  bytes = subst (IsPending _ _ _) (row-more clause_text (c.args.batch.now ++ conjunction_front c.args.number) c.args.clauses.now c.loop-clause.clause-index _ c.loop-clause-test.true) (pending-more _ _ _ _ _ _ _ c.loop-clause.invariant.bytes c.in_ok-put_clause.ensures.bytes);
+  bytes = subst (IsPending _ _ _)
+      (row-more clause_text (c.args.batch.now ++ conjunction_front c.args.number) c.args.clauses.now c.loop-clause.clause-index _ c.loop-clause-test.true)
+      (pending-more _ _ _ _ _ _ _ c.loop-clause.invariant.bytes c.in_ok-put_clause.ensures.bytes);
   faults = c.in_ok-put_clause.ensures.cause.kept ∙ c.loop-clause.invariant.faults;
 }
 
 -- all clauses are out or held, and the line ends
 pub returns-clause-bytes : goal.returns-clause-bytes
 returns-clause-bytes g c =
-    let all : take c.loop-clause.clause-index c.args.clauses.now ≡ c.args.clauses.now = take_all c.loop-clause.clause-index c.args.clauses.now c.loop-clause-test.false in
-    subst (Puts _ _ _ _) (sym (conjunction-whole c.args.batch.now c.args.number c.args.clauses.now)) (puts-more _ _ _ _ _ _ _ _ (rw all at c.loop-clause.invariant.bytes) c.put.ensures.bytes)
+    let all : take c.loop-clause.clause-index c.args.clauses.now ≡ c.args.clauses.now = take_all c.loop-clause.clause-index c.args.clauses.now
+    c.loop-clause-test.false in
+    subst (Puts _ _ _ _) (sym (conjunction-whole c.args.batch.now c.args.number c.args.clauses.now))
+    (puts-more _ _ _ _ _ _ _ _ (rw all at c.loop-clause.invariant.bytes) c.put.ensures.bytes)

@@ -9,7 +9,9 @@ use Rattle.spectro_hmltext.proofs.sheet_writer.put_field.Goals as goal
 pub returns-in_err-put_number-clause-bytes : goal.returns-in_err-put_number-clause-bytes
 returns-in_err-put_number-clause-bytes g c =
     let p = err_from_is_err_and c.from_residual-in_err-put_number.result c.from_residual-in_err-put_number.ensures.1 in
-    rw p.1 (puts-stopped _ _ _ _ _ _ _ _ (field-pieces c.args.batch.now c.args.before.now (decimal c.args.number) c.args.behind.now) c.in_ok-put.ensures.bytes c.in_err-put_number.ensures.bytes)
+    rw p.1 (puts-stopped _ _ _ _ _ _ _ _
+    (field-pieces c.args.batch.now c.args.before.now
+    (decimal c.args.number) c.args.behind.now) c.in_ok-put.ensures.bytes c.in_err-put_number.ensures.bytes)
 
 pub returns-clause-bytes : goal.returns-clause-bytes
 returns-clause-bytes g c =

@@ -9,7 +9,8 @@ returns-in_err-inside c = rw c.from_residual.ensures (λ inside is. c.in_err-ins
 
 pub returns-then-not-is_empty : goal.returns-then-not-is_empty
 returns-then-not-is_empty c = λ inside is.
-    let same = quotes-once c.args.text.now c.in_ok-inside.inside.now c.in_ok-inside.rest.now inside [] c.in_ok-inside.ensures (in_quotes-begin c.args.text.now inside is) in
+    let same = quotes-once c.args.text.now c.in_ok-inside.inside.now c.in_ok-inside.rest.now inside [] c.in_ok-inside.ensures
+    (in_quotes-begin c.args.text.now inside is) in
     both_ways c.is_empty.result c.if-not-is_empty.true (c.is_empty.ensures ∙ ap (λ rest. length rest == 0) same.1)
 
 pub returns : goal.returns

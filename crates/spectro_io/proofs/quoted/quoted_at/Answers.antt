@@ -21,4 +21,5 @@ pub returns : goal.returns
 returns c =
     let opened = c.in_ok-opened.opened.now in
     let begins = c.in_ok-opened.ensures.cases in
-    subst (BeginsInQuotes c.args.text.now (take c.in_ok-end.end opened)) (sym (behind opened (c.in_ok-end.end + 1))) (found-quotes c.args.text.now opened (opens_with c.args.text.now opened begins.0 begins.1) c.in_ok-end.end c.in_ok-end.ensures.place)
+    subst (BeginsInQuotes c.args.text.now (take c.in_ok-end.end opened)) (sym (behind opened (c.in_ok-end.end + 1)))
+    (found-quotes c.args.text.now opened (opens_with c.args.text.now opened begins.0 begins.1) c.in_ok-end.end c.in_ok-end.ensures.place)

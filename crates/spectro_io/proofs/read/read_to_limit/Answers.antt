@@ -13,5 +13,15 @@ returns-in_err-extend_from_slice-clause-err g c =
     rw p.1 (record {
       bytes = c.reading.bytes.items ++ read;
       front = Consumes-trans _ _ _ _ _ c.reading.invariant.front c.in_ok-count.ensures.bytes.0;
-      within = let fits = c.in_ok-count.ensures.bound.0 in let buffer = c.read.auto.buf in let room = c.min-room.ensures in omega (arith, length-append c.reading.bytes.items read, length-take c.in_ok-count.count c.read.new.buf, length-take c.min-room.result c.reading.piece, fits, buffer, room, c.len-in-reading.ensures, c.reading.bytes.ok);
+      within = let fits = c.in_ok-count.ensures.bound.0 in let buffer = c.read.auto.buf in let room = c.min-room.ensures in omega (
+        arith,
+        length-append c.reading.bytes.items read,
+        length-take c.in_ok-count.count c.read.new.buf,
+        length-take c.min-room.result c.reading.piece,
+        fits,
+        buffer,
+        room,
+        c.len-in-reading.ensures,
+        c.reading.bytes.ok,
+      );
     })

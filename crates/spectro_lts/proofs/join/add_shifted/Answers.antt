@@ -22,4 +22,5 @@ loop-k-preserved c =
     let added : Step = record { source = c.args.by + step.from; label = c.label.result.now; target = c.args.by + step.to } in
     c.in_ok-put.ensures.ok
     ∙ ap (λ (system : System). with_last system added) c.loop-k.invariant
-    ∙ ap (λ more. with_all draft more) (grown-more draft c.args.by steps c.loop-k.k step.from step.label step.to c.label.result.now c.step-step.ensures.step c.label.ensures.label)
+    ∙ ap (λ more. with_all draft more)
+    (grown-more draft c.args.by steps c.loop-k.k step.from step.label step.to c.label.result.now c.step-step.ensures.step c.label.ensures.label)

@@ -14,13 +14,15 @@ pub returns-in_err-start-clause-limit : goal.returns-in_err-start-clause-limit
 returns-in_err-start-clause-limit c =
     let p = err_from_is_err_and c.from_residual-in_err-start.result c.from_residual-in_err-start.ensures.1 in
     rw (p.1, p.2)
-    (past-starts c.args.lts.now c.args.starts.now c.in_err-start.field-0.0 c.args.limit c.args.lts.now.states c.in_ok-exploration.exploration c.in_ok-exploration.ensures.pairs c.in_err-start.ensures.limit)
+    (past-starts c.args.lts.now c.args.starts.now c.in_err-start.field-0.0 c.args.limit c.args.lts.now.states c.in_ok-exploration.exploration
+    c.in_ok-exploration.ensures.pairs c.in_err-start.ensures.limit)
 
 pub loop-k-init : goal.loop-k-init
 loop-k-init c =
     record {
       explored =
-          explored-none c.args.lts.now c.args.starts.now c.in_ok-exploration.exploration c.start.new.self c.args.limit c.in_ok-exploration.ensures.pairs c.in_ok-exploration.ensures.followers c.in_ok-exploration.ensures.labels
+          explored-none c.args.lts.now c.args.starts.now c.in_ok-exploration.exploration c.start.new.self c.args.limit c.in_ok-exploration.ensures.pairs
+          c.in_ok-exploration.ensures.followers c.in_ok-exploration.ensures.labels
           c.in_ok-start.ensures.ok (c.in_ok-start.ensures.posts c.args.lts.now c.in_ok-exploration.ensures.posts);
       within = omega arith;
       limit = c.in_ok-start.ensures.ok.limit ∙ ap (λ (p : Interned). p.limit) c.in_ok-exploration.ensures.pairs;
@@ -39,7 +41,8 @@ pub returns-in_err-expand-clause-limit : goal.returns-in_err-expand-clause-limit
 returns-in_err-expand-clause-limit c =
     let p = err_from_is_err_and c.from_residual-in_err-expand.result c.from_residual-in_err-expand.ensures.1 in
     rw (p.1, p.2)
-    (past-followers c.args.lts.now c.args.starts.now c.in_err-expand.field-0.0 c.args.limit c.loop-k.exploration c.loop-k.k c.loop-k.invariant.limit c.loop-k.invariant.explored
+    (past-followers c.args.lts.now c.args.starts.now c.in_err-expand.field-0.0 c.args.limit c.loop-k.exploration c.loop-k.k c.loop-k.invariant.limit
+    c.loop-k.invariant.explored
     c.in_err-expand.ensures.limit)
 
 pub loop-k-smaller : goal.loop-k-smaller
@@ -54,7 +57,8 @@ loop-k-preserved c =
     let has = c.in_ok-expand.ensures.ok in
     let longer = expanded-longer c.args.lts.now c.args.starts.now c.loop-k.exploration c.expand.new.self c.loop-k.k has in
     record {
-      explored = explored-more c.args.lts.now c.args.starts.now c.loop-k.exploration c.expand.new.self c.loop-k.k c.loop-k.invariant.explored has c.in_ok-expand.ensures.posts;
+      explored = explored-more c.args.lts.now c.args.starts.now c.loop-k.exploration c.expand.new.self c.loop-k.k c.loop-k.invariant.explored has
+          c.in_ok-expand.ensures.posts;
       within = omega (arith, longer, c.loop-k-test.true, c.len.ensures.value);
       limit = has.limit ∙ c.loop-k.invariant.limit;
     }
@@ -78,7 +82,8 @@ invariant_of-result c =
       system = c.args.lts.now;
       weighing = c.args.weights.now;
       starts = c.args.starts.now;
-      source = explored-all c.args.lts.now c.args.starts.now c.loop-k.exploration c.loop-k.k c.loop-k.invariant.explored all c.args.weights.now c.in_ok-weights.weights.items c.len.ensures.within c.in_ok-weights.ensures.bytes c.in_ok-weights.ensures.proper;
+      source = explored-all c.args.lts.now c.args.starts.now c.loop-k.exploration c.loop-k.k c.loop-k.invariant.explored all c.args.weights.now
+          c.in_ok-weights.weights.items c.len.ensures.within c.in_ok-weights.ensures.bytes c.in_ok-weights.ensures.proper;
       bound = omega (arith, c.step_count.ensures.value, c.step_count.ensures.bound);
       preds = c.in_ok-preds.ensures.rows;
     }
@@ -86,4 +91,5 @@ invariant_of-result c =
 pub returns-clause-explored : goal.returns-clause-explored
 returns-clause-explored c =
     let all = explored_all (goal.at.returns-clause-explored c).After-loop-k in
-    explored-all c.args.lts.now c.args.starts.now c.loop-k.exploration c.loop-k.k c.loop-k.invariant.explored all c.args.weights.now c.in_ok-weights.weights.items c.len.ensures.within c.in_ok-weights.ensures.bytes c.in_ok-weights.ensures.proper
+    explored-all c.args.lts.now c.args.starts.now c.loop-k.exploration c.loop-k.k c.loop-k.invariant.explored all c.args.weights.now
+    c.in_ok-weights.weights.items c.len.ensures.within c.in_ok-weights.ensures.bytes c.in_ok-weights.ensures.proper

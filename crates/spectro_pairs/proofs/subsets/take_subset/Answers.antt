@@ -17,13 +17,15 @@ loop-i-preserved c =
     let done = take c.loop-i.i c.args.set.now in
     let q = get_or c.args.set.now c.loop-i.i 0 in
     let place : length done ≡ c.loop-i.i = length-take-le c.loop-i.i c.args.set.now (omega arith) in
-    let more : (division_at c.args.mask (take (c.loop-i.i + 1) c.args.set.now)).left ≡ (division_at c.args.mask done).left ++ cond (has_bit c.args.mask c.loop-i.i) (q ∷ []) [] =
+    let more : (division_at c.args.mask (take (c.loop-i.i + 1) c.args.set.now)).left ≡ (division_at c.args.mask done).left ++ cond
+    (has_bit c.args.mask c.loop-i.i) (q ∷ []) [] =
     ap (λ l. (division_at c.args.mask l).left) (take_more c.args.set.now c.loop-i.i 0 c.loop-i-test.true) ∙ left-more c.args.mask done q
     ∙ ap (λ n. (division_at c.args.mask done).left ++ cond (has_bit c.args.mask n) (q ∷ []) []) place in
     elim c.if-mask-i-eq1.branch [
       | then-mask-i-eq1+in_ok-push w ↦
           let set : has_bit c.args.mask c.loop-i.i ≡ true = eq-eqb _ 1 (sym (shr_and_one c.args.mask c.loop-i.i) ∙ w.if-mask-i-eq1.true) in
-          ap (λ s. s.items) w.subset-is ∙ w.in_ok-push.ensures.ok ∙ ap (λ l. l ++ q ∷ []) c.loop-i.invariant ∙ sym (more ∙ ap (λ b. (division_at c.args.mask done).left ++ cond b (q ∷ []) []) set)
+          ap (λ s. s.items) w.subset-is ∙ w.in_ok-push.ensures.ok ∙ ap (λ l. l ++ q ∷ []) c.loop-i.invariant
+          ∙ sym (more ∙ ap (λ b. (division_at c.args.mask done).left ++ cond b (q ∷ []) []) set)
       | else-mask-i-eq1 w ↦
           let clear : has_bit c.args.mask c.loop-i.i ≡ false = ne_eqb _ 1 (λ e. w.if-mask-i-eq1.false (shr_and_one c.args.mask c.loop-i.i ∙ e)) in
           ap (λ s. s.items) w.subset-is ∙ c.loop-i.invariant

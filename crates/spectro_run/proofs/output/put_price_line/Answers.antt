@@ -12,7 +12,7 @@ pub returns-in_err-put-clause-bytes : goal.returns-in_err-put-clause-bytes
 returns-in_err-put-clause-bytes g c =
     let p = err_from_is_err_and c.from_residual.result c.from_residual.ensures.1 in
     rw p.1 (subst (AppendsPart _ _) (sym (price_line-pieces c.args.batch.now c.args.parts (price_of c.args.price.parts)))
-        (AppendsPart-front _ _ _ _ (AppendsPart-front _ _ _ _ c.in_err-put.ensures.bytes)))
+    (AppendsPart-front _ _ _ _ (AppendsPart-front _ _ _ _ c.in_err-put.ensures.bytes)))
 
 pub returns-in_err-put_price-clause-bytes : goal.returns-in_err-put_price-clause-bytes
 returns-in_err-put_price-clause-bytes g c =

@@ -16,7 +16,7 @@ pub returns-in-Some-Eval-clause-answer : goal.returns-in-Some-Eval-clause-answer
 returns-in-Some-Eval-clause-answer g c =
     rw c.in-Some-Eval.is
     (answered _ _ _ _ _ _ c.eval.result c.finish.result _ _
-        (ap asked (rw c.in-Some-Eval.is at c.in-Some-Eval.field-0-is)) c.eval.ensures.prepared c.finish.ensures.written
+    (ap asked (rw c.in-Some-Eval.is at c.in-Some-Eval.field-0-is)) c.eval.ensures.prepared c.finish.ensures.written
     (IfErr-weaker c.eval.result _ _ (λ stop is. (is.0, ap g.O.Sink.written is.1)) c.finish.ensures.stopped) c.finish.ensures.cause)
 
 pub returns-in-Some-Eval-clause-shelf : goal.returns-in-Some-Eval-clause-shelf
@@ -27,9 +27,9 @@ pub returns-in-Some-Rewrite-clause-answer : goal.returns-in-Some-Rewrite-clause-
 returns-in-Some-Rewrite-clause-answer g c =
     rw c.in-Some-Rewrite.is
     (answered _ _ _ _ _ _ c.rewrite.result c.finish-in-Some-Rewrite.result _ _
-        (ap asked (rw c.in-Some-Rewrite.is at c.in-Some-Rewrite.field-0-is)) c.rewrite.ensures.prepared c.finish-in-Some-Rewrite.ensures.written
+    (ap asked (rw c.in-Some-Rewrite.is at c.in-Some-Rewrite.field-0-is)) c.rewrite.ensures.prepared c.finish-in-Some-Rewrite.ensures.written
     (IfErr-weaker c.rewrite.result _ _
-        (λ stop is. (is.0, ap g.O.Sink.written is.1)) c.finish-in-Some-Rewrite.ensures.stopped) c.finish-in-Some-Rewrite.ensures.cause)
+    (λ stop is. (is.0, ap g.O.Sink.written is.1)) c.finish-in-Some-Rewrite.ensures.stopped) c.finish-in-Some-Rewrite.ensures.cause)
 
 pub returns-in-Some-Rewrite-clause-shelf : goal.returns-in-Some-Rewrite-clause-shelf
 returns-in-Some-Rewrite-clause-shelf g c = rw c.in-Some-Rewrite.is
@@ -39,7 +39,7 @@ pub returns-in-Some-Price-clause-answer : goal.returns-in-Some-Price-clause-answ
 returns-in-Some-Price-clause-answer g c =
     rw c.in-Some-Price.is
     (answered _ _ _ _ _ _ c.price.result c.finish-in-Some-Price.result _ _
-        (ap asked (rw c.in-Some-Price.is at c.in-Some-Price.field-0-is)) c.price.ensures.prepared c.finish-in-Some-Price.ensures.written
+    (ap asked (rw c.in-Some-Price.is at c.in-Some-Price.field-0-is)) c.price.ensures.prepared c.finish-in-Some-Price.ensures.written
     (IfErr-weaker c.price.result _ _ (λ stop is. (is.0, ap g.O.Sink.written is.1)) c.finish-in-Some-Price.ensures.stopped) c.finish-in-Some-Price.ensures.cause)
 
 pub returns-in-Some-Price-clause-shelf : goal.returns-in-Some-Price-clause-shelf
@@ -51,7 +51,7 @@ pub returns-in-Some-Size-clause-answer : goal.returns-in-Some-Size-clause-answer
 returns-in-Some-Size-clause-answer g c =
     rw c.in-Some-Size.is
     (answered _ _ _ _ _ _ c.size.result c.finish-in-Some-Size.result _ _
-        (ap asked (rw c.in-Some-Size.is at c.in-Some-Size.field-0-is)) c.size.ensures.prepared c.finish-in-Some-Size.ensures.written
+    (ap asked (rw c.in-Some-Size.is at c.in-Some-Size.field-0-is)) c.size.ensures.prepared c.finish-in-Some-Size.ensures.written
     (IfErr-weaker c.size.result _ _ (λ stop is. (is.0, ap g.O.Sink.written is.1)) c.finish-in-Some-Size.ensures.stopped) c.finish-in-Some-Size.ensures.cause)
 
 pub returns-in-Some-Size-clause-shelf : goal.returns-in-Some-Size-clause-shelf

@@ -15,7 +15,7 @@ returns-clause-all g c = elim c.reading-test.branch [
       let read = w.in_ok-count.ensures.bytes in
       let so_far = c.reading.invariant in
       rw w.source-is (taken_whole _ _ _ c.reading.feed c.reading.taken so_far.front so_far.within (rw w.if-count-eq0.true at read.0)
-          (read.1 w.if-count-eq0.true room))
+      (read.1 w.if-count-eq0.true room))
 ]
 
 pub reading-preserved : goal.reading-preserved

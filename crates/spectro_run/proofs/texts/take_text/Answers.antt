@@ -7,4 +7,4 @@ pub returns-in-Ok-clause-text : goal.returns-in-Ok-clause-text
 returns-in-Ok-clause-text g c =
     text_taken (g.H.Source.texts c.args.shelf.now) c.args.name.now (g.H.Source.left c.open.new.self) (g.H.Source.left c.take_all.new.source) c.in-Ok.feed
     (subst (λ found. Opens (g.H.Source.texts c.args.shelf.now) c.args.name.now found (g.H.Source.left c.open.new.self)) c.in-Ok-true.field-0-test
-        c.in-Ok-true.ensures.opened) c.in-Ok.ensures.all
+    c.in-Ok-true.ensures.opened) c.in-Ok.ensures.all

@@ -7,7 +7,7 @@ use Rattle.spectro_run.proofs.texts.take_weights.Goals as goal
 pub returns-in-Ok-clause-stage : goal.returns-in-Ok-clause-stage
 returns-in-Ok-clause-stage g c =
     rw c.in-Some.is (weighing-stage _ _ _ _ _ c.read_weighing.result c.in-Ok.ensures.text (rw c.deref.ensures.value at c.read_weighing.ensures.ok)
-        (rw c.deref.ensures.value at c.read_weighing.ensures.refused))
+    (rw c.deref.ensures.value at c.read_weighing.ensures.refused))
 
 pub returns-in-Ok-clause-counts : goal.returns-in-Ok-clause-counts
 returns-in-Ok-clause-counts g c = counts-same _ _ c.read_weighing.result c.in-Ok.ensures.counts.kept

@@ -12,6 +12,7 @@ use Rattle.spectro_antichain.proofs.antichain.Antichain.covers.Goals as goal
 pub returns : goal.returns
 returns c =
     let e = price_of c.args.e.parts in
-    let found = any_from_yields_List (λ (f : Energy). is_at_most (price_of f.parts) e) _ _ _ c.any.ensures.ran (YieldsList-from_slice c.self.inside.energies.items cc)
+    let found = any_from_yields_List (λ (f : Energy). is_at_most (price_of f.parts) e) _ _ _ c.any.ensures.ran
+    (YieldsList-from_slice c.self.inside.energies.items cc)
     (λ x b q k. (search (rules, tests), at_most_by b (price_of x.now.parts) e (search (rules, tests)))) in
     subst (λ es. IsTrue c.any.result ↔ Covers es e) c.self.view_is (covers_by c.any.result e c.self.inside.energies.items found)

@@ -15,7 +15,8 @@ listed c =
     let now : c.insert.new.self.items ≡ insert c.drop_above.new.energies.items c.place_of-place.result c.args.e = rw (c.insert.ensures.items, room) refl in
     inserted-prices_of c.args.e c.drop_above.new.energies.items c.insert.new.self.items c.args.self.now c.place_of-place.result
     (λ covered. true≢false (sym (c.covers.ensures.1 covered) ∙ c.if-covers.false))
-    (c.drop_above.ensures.list ∙ ap (λ es. not_above (price_of c.args.e.parts) (prices_of es)) c.reserve.ensures.items ∙ ap (not_above (price_of c.args.e.parts)) c.self.view_is)
+    (c.drop_above.ensures.list ∙ ap (λ es. not_above (price_of c.args.e.parts) (prices_of es)) c.reserve.ensures.items
+    ∙ ap (not_above (price_of c.args.e.parts)) c.self.view_is)
     (c.place_of-place.ensures.value ∙ ap (position_or_len (comes_first c.args.e)) c.as_slice.ensures.value)
     now
 
@@ -27,7 +28,8 @@ invariant_of-self c = subst (λ es. Rises (prices_of es) × AreApart (prices_of 
 
 pub invariant_of-self-2 : goal.invariant_of-self-2
 invariant_of-self-2 c =
-    inserted-antichain (price_of c.args.e.parts) c.args.self.now (prices_of c.insert.new.self.items) (listed c) (subst (λ es. Rises es × AreApart es) c.self.view_is c.self.invariant)
+    inserted-antichain (price_of c.args.e.parts) c.args.self.now (prices_of c.insert.new.self.items) (listed c)
+    (subst (λ es. Rises es × AreApart es) c.self.view_is c.self.invariant)
 
 pub returns-clause-list : goal.returns-clause-list
 returns-clause-list c = listed c

@@ -8,8 +8,11 @@ use Rattle.spectro_eval.proofs.truth.Truth.of.Goals as goal
 pub loop-node-preserved : goal.loop-node-preserved
 loop-node-preserved c =
     let sized = ap words_of c.states-states.ensures.value in
-    let wide : length c.write_row.new.row ≡ words_of c.args.lts.now.states = c.write_row.auto.row ∙ c.loop-node.auto.row ∙ c.as_mut_slice-row.ensures.len ∙ c.in_ok-words.ensures.len ∙ c.words_of.ensures ∙ sized in
-    rw c.in_ok-extend_from_slice.ensures.items (rows_more c.args.lts.now c.args.sheet.now c.loop-node.node c.loop-node.rows.items c.write_row.new.row (omega arith) c.loop-node.invariant c.write_row.ensures wide)
+    let wide : length c.write_row.new.row ≡ words_of c.args.lts.now.states = c.write_row.auto.row ∙ c.loop-node.auto.row ∙ c.as_mut_slice-row.ensures.len
+    ∙ c.in_ok-words.ensures.len ∙ c.words_of.ensures ∙ sized in
+    rw c.in_ok-extend_from_slice.ensures.items
+    (rows_more c.args.lts.now c.args.sheet.now c.loop-node.node c.loop-node.rows.items c.write_row.new.row
+    (omega arith) c.loop-node.invariant c.write_row.ensures wide)
 
 pub returns : goal.returns
 returns c =

@@ -7,4 +7,5 @@ use Rattle.spectro_hml.proofs.sheet.Sheet.push_all.Goals as goal
 pub invariant_of-self-2 : goal.invariant_of-self-2
 invariant_of-self-2 c =
     let was = ap (map node_kept) c.in_ok-reserve.ensures.items ∙ c.self.view_is in
-    sheet_more c.push_reserved.new.self.items c.reserve.new.self.items _ c.args.self.now (all_node c.args.clauses.now) c.push_reserved.ensures.items was (ap all_node c.in_ok-clauses.ensures.ok) (subst IsSheet c.self.view_is c.self.invariant) (c.requires.rise, c.requires.before)
+    sheet_more c.push_reserved.new.self.items c.reserve.new.self.items _ c.args.self.now (all_node c.args.clauses.now) c.push_reserved.ensures.items was
+    (ap all_node c.in_ok-clauses.ensures.ok) (subst IsSheet c.self.view_is c.self.invariant) (c.requires.rise, c.requires.before)

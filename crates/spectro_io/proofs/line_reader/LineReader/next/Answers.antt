@@ -25,7 +25,8 @@ refill-requires-clause-done g c = ahead-none c.taking.self _ (sym c.taking-test.
 pub returns-in_err-refill-clause-err : goal.returns-in_err-refill-clause-err
 returns-in_err-refill-clause-err g c =
     let p = err_from_is_err_and c.from_residual.result c.from_residual.ensures.1 in
-    rw p.1 (takes-kept _ _ _ _ _ _ _ c.taking.invariant.takes (sym c.taking-test.ensures.found) c.gather.ensures.after c.in_err-refill.ensures.kept c.in_err-refill.ensures.err)
+    rw p.1 (takes-kept _ _ _ _ _ _ _ c.taking.invariant.takes
+    (sym c.taking-test.ensures.found) c.gather.ensures.after c.in_err-refill.ensures.kept c.in_err-refill.ensures.err)
 
 -- nothing more was read, and a line is begun
 pub returns-then-not-branch-clause-line : goal.returns-then-not-branch-clause-line
@@ -33,7 +34,8 @@ returns-then-not-branch-clause-line g c is =
     let r = c.in_ok-refill.ensures in
     let line : c.last.result ≡ Line = cc is in
     let done : c.refill.new.self.ahead ≡ [] = none-read _ _ r.some c.if-not-branch.true in
-    let within : c.refill.new.self.taken < read_limit = not-full _ c.taking.self c.gather.new.self _ c.is_full.ensures c.if-is_full.false c.gather.ensures.within c.gather.ensures.after r.after done in
+    let within : c.refill.new.self.taken < read_limit = not-full _ c.taking.self c.gather.new.self _ c.is_full.ensures c.if-is_full.false
+    c.gather.ensures.within c.gather.ensures.after r.after done in
     takes-last _ _ _ _ _ (takes-read _ _ _ _ _ _ _ c.taking.invariant.takes (sym c.taking-test.ensures.found) c.gather.ensures.after r.bytes r.after)
     done (c.last.ensures.some line) (r.none done) within (c.last.ensures.line line)
 
@@ -43,7 +45,8 @@ returns-then-not-branch-clause-end g c is =
     let r = c.in_ok-refill.ensures in
     let end : c.last.result ≡ End = cc is in
     let done : c.refill.new.self.ahead ≡ [] = none-read _ _ r.some c.if-not-branch.true in
-    let within : c.refill.new.self.taken < read_limit = not-full _ c.taking.self c.gather.new.self _ c.is_full.ensures c.if-is_full.false c.gather.ensures.within c.gather.ensures.after r.after done in
+    let within : c.refill.new.self.taken < read_limit = not-full _ c.taking.self c.gather.new.self _ c.is_full.ensures c.if-is_full.false
+    c.gather.ensures.within c.gather.ensures.after r.after done in
     takes-end _ _ _ _ _ (takes-read _ _ _ _ _ _ _ c.taking.invariant.takes (sym c.taking-test.ensures.found) c.gather.ensures.after r.bytes r.after)
     done (c.last.ensures.none end) (r.none done) within (c.last.ensures.kept (λ line. cc (end, line)))
 

@@ -13,7 +13,8 @@ returns-clause-line c =
     let rest = drop at text in
     let some : at < length text = omega arith in
     let left : 0 < length rest = omega (arith, length-drop at text) in
-    let next : c.line_at-next.result.next ≡ at + length (ended_line rest) = place-next text at _ some c.line_at-next.ensures.within c.line_at-next.ensures.after c.line_at-next.ensures.rest in
+    let next : c.line_at-next.result.next ≡ at + length
+    (ended_line rest) = place-next text at _ some c.line_at-next.ensures.within c.line_at-next.ensures.after c.line_at-next.ensures.rest in
     let line : c.line_at-next.result.line.now ≡ first_line (ended_line rest) = c.line_at-next.ensures.line ∙ sym (first_line-ended_line rest) in
     rw (← c.self.view_is) (record {
       first = ended_line rest;

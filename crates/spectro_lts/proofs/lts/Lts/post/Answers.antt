@@ -10,7 +10,8 @@ use Rattle.spectro_lts.proofs.lts.Lts.post.Goals as goal
 
 -- the successors of one member more
 one_more : (f : ℕ → List ℕ) (set : List ℕ) (k : ℕ) → k < length set → flat_map f (take (k + 1) set) ≡ flat_map f (take k set) ++ f (slice_index set k)
-one_more f set k within = ap (flat_map f) (take_more set k 0 within) ∙ flat_map-append f (take k set) (slice_index set k ∷ []) ∙ ap (λ more. flat_map f (take k set) ++ more) (append-nil (f (slice_index set k)))
+one_more f set k within = ap (flat_map f) (take_more set k 0 within) ∙ flat_map-append f (take k set) (slice_index set k ∷ [])
+    ∙ ap (λ more. flat_map f (take k set) ++ more) (append-nil (f (slice_index set k)))
 
 pub loop-q-preserved : goal.loop-q-preserved
 loop-q-preserved c =
@@ -28,7 +29,8 @@ returns c =
     let system = c.args.self.now in
     let label = label_of system.steps c.args.no in
     let all : take c.loop-q.q-index c.args.set.now ≡ c.args.set.now = take_all c.loop-q.q-index c.args.set.now c.loop-q-test.false in
-    let value : c.of.result ≡ post system c.args.set.now label = c.of.ensures ∙ ap rising c.loop-q.invariant ∙ ap (λ qs. rising (flat_map (λ q. post system (q ∷ []) label) qs)) all ∙ post-by_member system c.args.set.now label in
+    let value : c.of.result ≡ post system c.args.set.now label = c.of.ensures ∙ ap rising c.loop-q.invariant
+    ∙ ap (λ qs. rising (flat_map (λ q. post system (q ∷ []) label) qs)) all ∙ post-by_member system c.args.set.now label in
     let is_whole = subst IsWhole c.self.view_is (whole inside.states inside.initial inside.labels.keys inside.steps.items c.self.invariant.numbered) in
     record {
       value = value;

@@ -23,7 +23,8 @@ returns c =
     let below : c.args.s < inside.states = omega (arith, c.requires.state, ap (λ (system : System). system.states) c.self.view_is) in
     let within = subst (λ (system : System). c.args.no < length (labels_of system.steps)) (sym c.self.view_is) c.requires.label in
     let listed = c.successors.ensures.list inside.states indexed.ranks inside.steps.items below indexed.has in
-    let value : targets ≡ post system (c.args.s ∷ []) label = subst (λ (system : System). targets ≡ post system (c.args.s ∷ []) (label_of system.steps c.args.no)) c.self.view_is
+    let value : targets ≡ post system (c.args.s ∷ []) label = subst
+    (λ (system : System). targets ≡ post system (c.args.s ∷ []) (label_of system.steps c.args.no)) c.self.view_is
     (listed ∙ successors-post inside.states inside.initial inside.labels.keys inside.steps.items inside.table indexed c.args.s c.args.no within) in
     let is_whole = subst IsWhole c.self.view_is (whole inside.states inside.initial inside.labels.keys inside.steps.items indexed.numbered) in
     record {

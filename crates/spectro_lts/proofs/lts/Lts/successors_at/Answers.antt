@@ -24,8 +24,10 @@ returns c =
     let below : c.args.s < inside.states = omega (arith, c.requires.state, ap (λ (system : System). system.states) c.self.view_is) in
     let listed = c.successors_at.ensures.list inside.states indexed.ranks inside.steps.items below indexed.has in
     let value : (label : Label) → slice_get (labels_from system.steps c.args.s) c.args.i ≡ Some label → targets ≡ post system (c.args.s ∷ []) label =
-    subst (λ (system : System). (label : Label) → slice_get (labels_from system.steps c.args.s) c.args.i ≡ Some label → targets ≡ post system (c.args.s ∷ []) label) c.self.view_is
-    (λ label here. listed ∙ row-post inside.states inside.initial inside.labels.keys inside.steps.items inside.table indexed c.args.s below c.args.i label here) in
+    subst (λ (system : System). (label : Label) → slice_get (labels_from system.steps c.args.s) c.args.i ≡ Some label
+    → targets ≡ post system (c.args.s ∷ []) label) c.self.view_is
+    (λ label here. listed
+    ∙ row-post inside.states inside.initial inside.labels.keys inside.steps.items inside.table indexed c.args.s below c.args.i label here) in
     let label = slice_index_or (labels_from system.steps c.args.s) c.args.i [] in
     let is = value label (slice_get-get_or (labels_from system.steps c.args.s) c.args.i [] c.requires.place) in
     let is_whole = subst IsWhole c.self.view_is (whole inside.states inside.initial inside.labels.keys inside.steps.items indexed.numbered) in

@@ -29,7 +29,13 @@ bounds-row-i-2 c = (known (goal.at.bounds-row-i-2 c).After-row-2).within
 pub index-requires : goal.index-requires
 index-requires c =
     let weighed = (known (goal.at.index-requires c).After-row-2).weighed in
-    omega (arith, stands-below c.args.self.now.weights (get_or c.row.result.now c.args.i 0) _ weighed, ap (λ (e : Explored). length e.weights) c.self.view_is, c.self.inside.weights.ok.0)
+    omega (
+      arith,
+      stands-below c.args.self.now.weights (get_or c.row.result.now c.args.i 0) _ weighed,
+      ap
+          (λ (e : Explored). length e.weights) c.self.view_is,
+      c.self.inside.weights.ok.0,
+    )
 
 pub returns-clause-observation : goal.returns-clause-observation
 returns-clause-observation c system weighing starts source =

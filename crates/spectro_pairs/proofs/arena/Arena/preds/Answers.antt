@@ -14,11 +14,18 @@ many : (c : After-self) → length c.self.inside.followers.rows ≡ length c.arg
 many c =
     let known = c.self.invariant in
     ap (λ (e : Explored). length e.followers) c.self.view_is
-    ∙ as_many known.system known.weighing known.starts c.args.self.now (subst (IsExploredFrom known.system known.weighing known.starts) c.self.view_is known.source)
+    ∙ as_many known.system known.weighing known.starts c.args.self.now
+    (subst (IsExploredFrom known.system known.weighing known.starts) c.self.view_is known.source)
 
 pub row-requires : goal.row-requires
 row-requires c =
-    omega (arith, ap length c.self.invariant.preds, length-map-range_with_len (predecessors_of c.self.inside.followers.rows) 0 (length c.self.inside.followers.rows), many (goal.at.row-requires c).After-self)
+    omega (
+      arith,
+      ap length c.self.invariant.preds,
+      length-map-range_with_len (predecessors_of c.self.inside.followers.rows) 0
+          (length c.self.inside.followers.rows),
+      many (goal.at.row-requires c).After-self,
+    )
 
 -- the row has the predecessors of the pair
 row-is : (c : goal.After-row) → c.row.result.now ≡ predecessors_of c.self.inside.followers.rows c.args.k
@@ -29,7 +36,9 @@ row-is c =
 pub returns-clause-value : goal.returns-clause-value
 returns-clause-value c system weighing starts source =
     let x = stands-some c.args.self.now.pairs c.args.k c.requires in
-    are_predecessors system weighing starts c.args.self.now source c.args.k x.0 x.1 c.row.result.now (row-is c ∙ ap (λ (e : Explored). predecessors_of e.followers c.args.k) c.self.view_is)
+    are_predecessors system weighing starts c.args.self.now source c.args.k x.0 x.1 c.row.result.now (row-is c
+    ∙ ap (λ (e : Explored). predecessors_of e.followers c.args.k) c.self.view_is)
 
 pub returns-clause-rises : goal.returns-clause-rises
-returns-clause-rises c = subst IsStrictlyIncreasing (sym (row-is c)) (predecessors-rise c.self.inside.followers.rows (length c.self.inside.followers.rows) c.args.k)
+returns-clause-rises c = subst IsStrictlyIncreasing (sym (row-is c))
+    (predecessors-rise c.self.inside.followers.rows (length c.self.inside.followers.rows) c.args.k)

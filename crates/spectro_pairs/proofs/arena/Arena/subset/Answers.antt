@@ -16,7 +16,8 @@ found c =
     let count = c.observation_count-from.ensures.count known.system known.weighing known.starts source in
     let some = c.requires.some in
     subset-at known.system known.weighing known.starts c.args.self.now source c.args.k count.0 count.1 c.row.result.now
-    (ap (λ (e : Explored). slice_get e.followers c.args.k) (sym c.self.view_is) ∙ c.row.ensures) c.args.mask (c.observation_count-from.result + c.args.mask - 1) some c.requires.mask
+    (ap (λ (e : Explored). slice_get e.followers c.args.k) (sym c.self.view_is)
+    ∙ c.row.ensures) c.args.mask (c.observation_count-from.result + c.args.mask - 1) some c.requires.mask
     (omega (arith, count.2))
 
 pub bounds-row-from : goal.bounds-row-from

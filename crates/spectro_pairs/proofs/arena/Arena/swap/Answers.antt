@@ -14,14 +14,17 @@ place-fits n size within small = omega arith
 offset-fits : (n size : ℕ) → n < size → size * 4 < 9223372036854775808 → n * 4 < 18446744073709551616
 offset-fits n size within small = omega arith
 
-found : (c : After-row) → let place = c.observation_count.result + (1 * 2 ^ length c.set-set.result.now) % 18446744073709551616 - 1 + c.others_before-others.result in
+found : (c : After-row)
+    → let place = c.observation_count.result + (1 * 2 ^ length c.set-set.result.now) % 18446744073709551616 - 1 + c.others_before-others.result in
     (place < length c.row.result.now) × IsSwap c.args.self.now.pairs c.args.k c.args.i (Some (get_or c.row.result.now place 0))
 found c =
     let known = c.self.invariant in
     let source = subst (IsExploredFrom known.system known.weighing known.starts) c.self.view_is known.source in
-    swap-from known.system known.weighing known.starts c.args.self.now c.args.k c.args.i c.row.result.now c.observation_count.result c.state-state.result c.others_before-others.result
+    swap-from known.system known.weighing known.starts c.args.self.now c.args.k c.args.i c.row.result.now c.observation_count.result c.state-state.result
+    c.others_before-others.result
     c.set-set.result.now source (ap (λ (e : Explored). slice_get e.followers c.args.k) (sym c.self.view_is) ∙ c.row.ensures)
-    (c.observation_count.ensures.count known.system known.weighing known.starts source) c.state-state.ensures.value c.set-set.ensures.value c.requires.place c.if-set-i.false c.set-set.ensures.few
+    (c.observation_count.ensures.count known.system known.weighing known.starts source) c.state-state.ensures.value c.set-set.ensures.value c.requires.place
+    c.if-set-i.false c.set-set.ensures.few
     c.others_before-others.ensures
 
 pub overflow_add-result : goal.overflow_add-result

@@ -16,7 +16,8 @@ returns-in_err-k-clause-limit c =
     let p = err_from_is_err_and c.from_residual.result c.from_residual.ensures.1 in
     let a = c.args.self.now in
     rw (p.1, p.2)
-    (subst (λ l. IsPastLimit c.in_err-k.field-0.0 a.pairs.limit (size l)) (sym (with_all-one is_same_pair a.pairs.pairs (pair_at a.pairs.sets c.args.state c.args.set))) c.in_err-k.ensures.limit)
+    (subst (λ l. IsPastLimit c.in_err-k.field-0.0 a.pairs.limit (size l))
+    (sym (with_all-one is_same_pair a.pairs.pairs (pair_at a.pairs.sets c.args.state c.args.set))) c.in_err-k.ensures.limit)
 
 pub returns-clause-ok : goal.returns-clause-ok
 returns-clause-ok c =
@@ -25,4 +26,5 @@ returns-clause-ok c =
 
 pub returns-clause-posts : goal.returns-clause-posts
 returns-clause-posts c =
-    posts-kept c.args.self.now (record c.args.self.now { pairs = c.reach.new.self; followers = c.push.new.self }) refl (λ n set here. subst (λ (p : Interned). StandsAt p.sets n set) (sym c.in_ok-k.ensures.ok) here)
+    posts-kept c.args.self.now (record c.args.self.now { pairs = c.reach.new.self; followers = c.push.new.self }) refl
+    (λ n set here. subst (λ (p : Interned). StandsAt p.sets n set) (sym c.in_ok-k.ensures.ok) here)

@@ -19,7 +19,9 @@ use Rattle.spectro_pairs.proofs.exploration.Exploration.add_observations.Goals a
 use Rattle.spectro_pairs.proofs.exploration.Exploration.add_observations.Goals.{After-labels_of-no-items, After-successors_at}
 
 -- label by label, all that is observed
-all-observed : (c : After-labels_of-no-items) → flat_map (observed_with c.args.lts.now c.args.state c.args.set.now) c.labels_of-no-items.result.now ≡ observed c.args.lts.now (pair_of c.args.state c.args.set.now)
+all-observed : (c : After-labels_of-no-items)
+    → flat_map (observed_with c.args.lts.now c.args.state c.args.set.now) c.labels_of-no-items.result.now ≡ observed c.args.lts.now
+    (pair_of c.args.state c.args.set.now)
 all-observed c =
     let under = observed_under c.args.lts.now (pair_of c.args.state c.args.set.now) in
     sym (flat_map-map under (label_of c.args.lts.now.steps) c.labels_of-no-items.result.now) ∙ ap (flat_map under) c.labels_of-no-items.ensures.labels
@@ -81,7 +83,8 @@ loop-i-preserved c =
       reached =
           has-next a b d (flat_map made (take c.loop-i.i nos)) (made no) (flat_map made (take (c.loop-i.i + 1) nos))
           (flat_map told (take c.loop-i.i nos)) (told no) (flat_map told (take (c.loop-i.i + 1) nos))
-          (has-still a c.loop-i.self b (flat_map made (take c.loop-i.i nos)) (flat_map told (take c.loop-i.i nos)) c.loop-i.invariant.reached c.in_ok-after.ensures.ok) added
+          (has-still a c.loop-i.self b (flat_map made (take c.loop-i.i nos))
+          (flat_map told (take c.loop-i.i nos)) c.loop-i.invariant.reached c.in_ok-after.ensures.ok) added
           (flat_map-more made nos c.loop-i.i 0 c.loop-i-test.true) (flat_map-more told nos c.loop-i.i 0 c.loop-i-test.true);
       posts = c.in_ok-add_observed.ensures.posts c.args.lts.now c.in_ok-after.ensures.posts;
     }
@@ -101,6 +104,7 @@ returns-clause-ok c =
           subst (λ l. HasReached c.args.self.now c.loop-i.self l (flat_map told nos)) whole
           (subst (λ (l : List ℕ). HasReached c.args.self.now c.loop-i.self (flat_map made l) (flat_map told l)) all c.loop-i.invariant.reached);
       labelled =
-          subst (λ (l : List Label). Name (labels_of c.args.lts.now.steps) (flat_map told nos) (flat_map (λ label. map (λ t. label) (targets label)) l)) c.labels_of-no-items.ensures.labels
+          subst (λ (l : List Label). Name (labels_of c.args.lts.now.steps) (flat_map told nos)
+          (flat_map (λ label. map (λ t. label) (targets label)) l)) c.labels_of-no-items.ensures.labels
           (name-observed (labels_of c.args.lts.now.steps) targets nos c.labels_of-no-items.ensures.in_range);
     }

@@ -46,11 +46,13 @@ loop-t-preserved c =
     record {
       sets = c.in_ok-add.ensures.sets ∙ c.loop-t.invariant.sets;
       reached =
-          has-next a b (record grown { labels = c.push.new.self }) (map made (take c.loop-t.t-index targets)) (made t ∷ []) (map made (take (c.loop-t.t-index + 1) targets))
+          has-next a b (record grown { labels = c.push.new.self }) (map made (take c.loop-t.t-index targets)) (made t ∷ [])
+          (map made (take (c.loop-t.t-index + 1) targets))
           (map told (take c.loop-t.t-index targets)) (c.args.no ∷ []) (map told (take (c.loop-t.t-index + 1) targets)) c.loop-t.invariant.reached
           (has-labelled b grown c.push.new.self (made t ∷ []) [] (c.args.no ∷ []) c.in_ok-push.ensures.ok added)
           (map_more made targets c.loop-t.t-index 0 c.loop-t-test.true) (map_more told targets c.loop-t.t-index 0 c.loop-t-test.true);
-      posts = λ system posts. posts-kept grown (record grown { labels = c.push.new.self }) refl (λ n set here. here) system (c.in_ok-add.ensures.posts system (c.loop-t.invariant.posts system posts));
+      posts = λ system posts. posts-kept grown (record grown { labels = c.push.new.self }) refl (λ n set here. here) system
+          (c.in_ok-add.ensures.posts system (c.loop-t.invariant.posts system posts));
     }
 
 pub returns-clause-ok : goal.returns-clause-ok

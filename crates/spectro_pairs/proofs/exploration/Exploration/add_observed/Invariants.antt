@@ -7,6 +7,7 @@ use Rattle.spectro_pairs.proofs.exploration.Exploration.add_observed.Given as go
 abbrev pub invariant-loop-t : goal.invariant-loop-t
 invariant-loop-t l = record {
   sets : l.self.pairs.sets ≡ l.fn.self.pairs.sets;
-  reached : HasReached l.fn.self l.self (map (λ t. pair_at l.fn.self.pairs.sets t l.set) (take l.t-index l.targets)) (map (λ t. l.no) (take l.t-index l.targets));
+  reached : HasReached l.fn.self l.self (map (λ t. pair_at l.fn.self.pairs.sets t l.set) (take l.t-index l.targets))
+      (map (λ t. l.no) (take l.t-index l.targets));
   posts : KeepsPosts l.fn.self l.self;
 }

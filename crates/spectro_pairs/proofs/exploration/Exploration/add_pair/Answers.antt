@@ -14,7 +14,8 @@ use Rattle.spectro_pairs.proofs.exploration.Exploration.add_pair.Goals.{In_ok-se
 -- nothing is reached by numbering the set
 numbered : (c : In_ok-set_no) → HasReached c.args.self.now (record c.args.self.now { pairs = c.number_set.new.self }) [] []
 numbered c =
-    has-numbered c.args.self.now c.args.self.now c.number_set.new.self (with_last bytes_eq c.args.self.now.pairs.sets c.args.set.now) [] [] c.in_ok-set_no.ensures.ok (has-none c.args.self.now)
+    has-numbered c.args.self.now c.args.self.now c.number_set.new.self
+    (with_last bytes_eq c.args.self.now.pairs.sets c.args.set.now) [] [] c.in_ok-set_no.ensures.ok (has-none c.args.self.now)
 
 pair-is : (c : In_ok-set_no) → pair_at c.number_set.new.self.sets c.args.state c.in_ok-set_no.set_no ≡ pair_of c.args.state c.args.set.now
 pair-is c = pair_at-set c.number_set.new.self.sets c.args.state c.in_ok-set_no.set_no c.args.set.now c.in_ok-set_no.ensures.number

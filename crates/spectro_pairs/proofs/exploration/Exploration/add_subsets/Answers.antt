@@ -24,7 +24,8 @@ add_pair-requires-clause-state c = omega (arith, c.requires.state, c.loop-mask.i
 pub add_pair-requires-clause-set : goal.add_pair-requires-clause-set
 add_pair-requires-clause-set c =
     subst (IsSetWithin c.loop-mask.self.pairs.states) (sym c.as_slice.ensures)
-    (c.in_ok-take_subset.ensures.within c.loop-mask.self.pairs.states (subst (λ n. IsSetWithin n c.args.set.now) (sym c.loop-mask.invariant.reached.states) c.requires.set))
+    (c.in_ok-take_subset.ensures.within c.loop-mask.self.pairs.states
+    (subst (λ n. IsSetWithin n c.args.set.now) (sym c.loop-mask.invariant.reached.states) c.requires.set))
 
 pub returns-in_err-add_pair-clause-limit : goal.returns-in_err-add_pair-clause-limit
 returns-in_err-add_pair-clause-limit c =
@@ -38,7 +39,8 @@ returns-in_err-add_pair-clause-limit c =
     let past = subst (λ x. IsPastWith c.in_err-add_pair.field-0.0 b (x ∷ [])) is c.in_err-add_pair.ensures.limit in
     rw (p.1, p.2)
     (past-whole c.in_err-add_pair.field-0.0 c.args.self.now b (subsets_to state set mask) (pair_of state taken.0.left ∷ [])
-    (map (λ (d : Division). pair_of state d.left) (drop (mask - 1 + 1) (drop 1 (divisions set)))) (subsets (pair_of state set)) c.loop-mask.invariant.reached.limit c.loop-mask.invariant.reached.pairs past
+    (map (λ (d : Division). pair_of state d.left) (drop (mask - 1 + 1) (drop 1 (divisions set))))
+    (subsets (pair_of state set)) c.loop-mask.invariant.reached.limit c.loop-mask.invariant.reached.pairs past
     (subsets-whole state set mask taken.0 c.loop-mask.auto.mask taken.1))
 
 pub loop-mask-preserved : goal.loop-mask-preserved
@@ -52,7 +54,8 @@ loop-mask-preserved c =
     let added = subst (λ x. HasReached b c.add_pair.new.self (x ∷ []) []) is c.in_ok-add_pair.ensures.ok in
     record {
       reached =
-          has-next c.args.self.now b c.add_pair.new.self (subsets_to state set mask) (pair_of state taken.0.left ∷ []) (subsets_to state set (mask + 1)) [] [] [] c.loop-mask.invariant.reached added
+          has-next c.args.self.now b c.add_pair.new.self (subsets_to state set mask) (pair_of state taken.0.left ∷ [])
+          (subsets_to state set (mask + 1)) [] [] [] c.loop-mask.invariant.reached added
           (subsets-more state set mask taken.0 c.loop-mask.auto.mask taken.1) refl;
       posts = λ system posts. c.in_ok-add_pair.ensures.posts system (c.loop-mask.invariant.posts system posts);
     }
@@ -60,7 +63,8 @@ loop-mask-preserved c =
 pub returns-clause-ok : goal.returns-clause-ok
 returns-clause-ok c =
     let few : 2 ^ length c.args.set.now ≤ 2 ^ 19 = pow-le-pow_right (lit< tt) c.requires.few in
-    subst (λ l. HasReached c.args.self.now c.loop-mask.self l []) (subsets-all c.args.state c.args.set.now c.loop-mask.mask (omega (arith, few, c.loop-mask-test.false))) c.loop-mask.invariant.reached
+    subst (λ l. HasReached c.args.self.now c.loop-mask.self l [])
+    (subsets-all c.args.state c.args.set.now c.loop-mask.mask (omega (arith, few, c.loop-mask-test.false))) c.loop-mask.invariant.reached
 
 pub returns-clause-posts : goal.returns-clause-posts
 returns-clause-posts c = c.loop-mask.invariant.posts

@@ -27,7 +27,8 @@ returns-in_err-add_pair-clause-limit c =
     let i = c.loop-q.q-index in
     let q = get_or set i 0 in
     rw (p.1, p.2)
-    (past-whole c.in_err-add_pair.field-0.0 c.args.self.now b (swaps_with state (take i set)) (pair_of q (state ∷ []) ∷ []) (swaps_with state (drop (i + 1) set)) (swaps_with state set)
+    (past-whole c.in_err-add_pair.field-0.0 c.args.self.now b (swaps_with state (take i set)) (pair_of q (state ∷ []) ∷ [])
+    (swaps_with state (drop (i + 1) set)) (swaps_with state set)
     c.loop-q.invariant.reached.limit c.loop-q.invariant.reached.pairs c.in_err-add_pair.ensures.limit
     (made-whole (swaps_with state) (swaps-append state) set i 0 c.loop-q-test.true
     ∙ ap (λ l. (swaps_with state (take i set) ++ l) ++ swaps_with state (drop (i + 1) set)) (swaps-other state q c.if-q-state.true)))
@@ -45,7 +46,8 @@ loop-q-preserved c =
       | then-q-state+in_ok-add_pair w ↦ record {
         reached =
             subst (λ e. HasReached a e (swaps_with state (take (i + 1) set)) []) (sym w.self-is)
-            (has-next a b w.add_pair.new.self (swaps_with state (take i set)) (pair_of q (state ∷ []) ∷ []) (swaps_with state (take (i + 1) set)) [] [] [] c.loop-q.invariant.reached w.in_ok-add_pair.ensures.ok
+            (has-next a b w.add_pair.new.self (swaps_with state (take i set)) (pair_of q (state ∷ []) ∷ [])
+            (swaps_with state (take (i + 1) set)) [] [] [] c.loop-q.invariant.reached w.in_ok-add_pair.ensures.ok
             (more ∙ ap (λ l. swaps_with state (take i set) ++ l) (swaps-other state q w.if-q-state.true)) refl);
         posts = λ system posts. subst (ArePosts system) (sym w.self-is) (w.in_ok-add_pair.ensures.posts system (c.loop-q.invariant.posts system posts));
       }
@@ -53,14 +55,16 @@ loop-q-preserved c =
         reached =
             subst (λ e. HasReached a e (swaps_with state (take (i + 1) set)) []) (sym w.self-is)
             (subst (λ l. HasReached a b l [])
-            (sym (more ∙ ap (λ l. swaps_with state (take i set) ++ l) (swaps-own state q w.if-q-state.false) ∙ append-nil (swaps_with state (take i set)))) c.loop-q.invariant.reached);
+            (sym (more ∙ ap (λ l. swaps_with state (take i set) ++ l) (swaps-own state q w.if-q-state.false) ∙ append-nil (swaps_with state (take i set))))
+            c.loop-q.invariant.reached);
         posts = λ system posts. subst (ArePosts system) (sym w.self-is) (c.loop-q.invariant.posts system posts);
       }
     ]
 
 pub returns-clause-ok : goal.returns-clause-ok
 returns-clause-ok c =
-    subst (λ l. HasReached c.args.self.now c.loop-q.self (swaps_with c.args.state l) []) (take_all c.loop-q.q-index c.args.set.now c.loop-q-test.false) c.loop-q.invariant.reached
+    subst (λ l. HasReached c.args.self.now c.loop-q.self (swaps_with c.args.state l) [])
+    (take_all c.loop-q.q-index c.args.set.now c.loop-q-test.false) c.loop-q.invariant.reached
 
 pub returns-clause-posts : goal.returns-clause-posts
 returns-clause-posts c = c.loop-q.invariant.posts

@@ -14,14 +14,18 @@ use Rattle.spectro_pairs.proofs.exploration.Exploration.expand.Goals.{In_ok-set,
 here : (c : In_ok-set) → StandsAt c.args.self.now.pairs.pairs c.args.k (pair_of c.state-state.result c.set.result.now)
 here c = pair-here c.args.self.now.pairs.pairs c.args.k c.state-state.result c.set.result.now c.state-state.ensures.state c.set.ensures.set
 
-reached_observed : (c : In_ok-add_observations) → HasObserved c.args.lts.now c.args.self.now c.add_observations.new.self (pair_of c.state-state.result c.set.result.now)
+reached_observed : (c : In_ok-add_observations)
+    → HasObserved c.args.lts.now c.args.self.now c.add_observations.new.self (pair_of c.state-state.result c.set.result.now)
 reached_observed c =
-    subst (λ s. HasObserved c.args.lts.now c.args.self.now c.add_observations.new.self (pair_of c.state-state.result s)) (c.as_slice.ensures ∙ c.in_ok-set.ensures.ok)
+    subst (λ s. HasObserved c.args.lts.now c.args.self.now c.add_observations.new.self (pair_of c.state-state.result s)) (c.as_slice.ensures
+    ∙ c.in_ok-set.ensures.ok)
     c.in_ok-add_observations.ensures.ok
 
-reached_subsets : (c : In_ok-add_subsets) → HasReached c.add_observations.new.self c.add_subsets.new.self (subsets (pair_of c.state-state.result c.set.result.now)) []
+reached_subsets : (c : In_ok-add_subsets)
+    → HasReached c.add_observations.new.self c.add_subsets.new.self (subsets (pair_of c.state-state.result c.set.result.now)) []
 reached_subsets c =
-    subst (λ s. HasReached c.add_observations.new.self c.add_subsets.new.self (subsets (pair_of c.state-state.result s)) []) (c.as_slice-2.ensures ∙ c.in_ok-set.ensures.ok)
+    subst (λ s. HasReached c.add_observations.new.self c.add_subsets.new.self (subsets (pair_of c.state-state.result s)) []) (c.as_slice-2.ensures
+    ∙ c.in_ok-set.ensures.ok)
     c.in_ok-add_subsets.ensures.ok
 
 pub returns-in_err-add_observations-clause-limit : goal.returns-in_err-add_observations-clause-limit

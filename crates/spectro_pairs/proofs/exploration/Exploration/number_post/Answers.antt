@@ -10,7 +10,8 @@ pub returns-in_ok-after-in_default-clause-ok : goal.returns-in_ok-after-in_defau
 returns-in_ok-after-in_default-clause-ok c =
     let a = c.args.self.now in
     on_ok_weaker c.number_set.result
-    (λ numbered. has-numbered a a c.number_set.new.self (with_last bytes_eq a.pairs.sets c.as_slice.result.now) [] [] numbered (has-none a)) c.number_set.ensures.ok
+    (λ numbered. has-numbered a a c.number_set.new.self (with_last bytes_eq a.pairs.sets c.as_slice.result.now) [] [] numbered
+    (has-none a)) c.number_set.ensures.ok
 
 pub returns-in_ok-after-in_default-clause-posts : goal.returns-in_ok-after-in_default-clause-posts
 returns-in_ok-after-in_default-clause-posts c =

@@ -19,5 +19,6 @@ pub returns-clause-posts : goal.returns-clause-posts
 returns-clause-posts c =
     let a = c.args.self.now in
     let here = subst (StandsAt c.number_set.new.self.sets c.in_ok-n.n) c.successors.ensures.value c.in_ok-n.ensures.number in
-    posts-put c.args.lts.now (record a { pairs = c.number_set.new.self }) c.put.new.self c.args.q c.args.no c.in_ok-n.n c.put.ensures.width c.put.ensures.knows here
+    posts-put c.args.lts.now
+    (record a { pairs = c.number_set.new.self }) c.put.new.self c.args.q c.args.no c.in_ok-n.n c.put.ensures.width c.put.ensures.knows here
     (posts-numbered a c.number_set.new.self c.successors.result.now c.in_ok-n.ensures.ok c.args.lts.now c.requires.posts)

@@ -17,12 +17,15 @@ use Rattle.spectro_pairs.proofs.exploration.Exploration.start.Goals as goal
 use Rattle.spectro_pairs.proofs.exploration.Exploration.start.Goals.{In_ok-set}
 
 -- with the set of the start numbered, the pair is that of the start
-numbered : (c : In_ok-set) → HasStarted c.args.self.now (record c.loop-p.self { pairs = c.number_set.new.self }) (map start_pair (take c.loop-p.p-index c.args.starts.now))
+numbered : (c : In_ok-set)
+    → HasStarted c.args.self.now (record c.loop-p.self { pairs = c.number_set.new.self }) (map start_pair (take c.loop-p.p-index c.args.starts.now))
 numbered c =
-    started-numbered c.args.self.now c.loop-p.self c.number_set.new.self (with_last bytes_eq c.loop-p.self.pairs.sets ((get_or c.args.starts.now c.loop-p.p-index (0, 0)).1 ∷ []))
+    started-numbered c.args.self.now c.loop-p.self c.number_set.new.self
+    (with_last bytes_eq c.loop-p.self.pairs.sets ((get_or c.args.starts.now c.loop-p.p-index (0, 0)).1 ∷ []))
     (map start_pair (take c.loop-p.p-index c.args.starts.now)) c.in_ok-set.ensures.ok c.loop-p.invariant.started
 
-pair-is : (c : In_ok-set) → let start = get_or c.args.starts.now c.loop-p.p-index (0, 0) in pair_at c.number_set.new.self.sets start.0 c.in_ok-set.set ≡ start_pair start
+pair-is : (c : In_ok-set)
+    → let start = get_or c.args.starts.now c.loop-p.p-index (0, 0) in pair_at c.number_set.new.self.sets start.0 c.in_ok-set.set ≡ start_pair start
 pair-is c =
     let start = get_or c.args.starts.now c.loop-p.p-index (0, 0) in
     pair_at-set c.number_set.new.self.sets start.0 c.in_ok-set.set (start.1 ∷ []) c.in_ok-set.ensures.number
@@ -52,7 +55,8 @@ returns-in_err-reach-clause-limit c =
     let start = get_or c.args.starts.now c.loop-p.p-index (0, 0) in
     let has = numbered (goal.at.returns-in_err-reach-clause-limit c).In_ok-set in
     let is = pair-is (goal.at.returns-in_err-reach-clause-limit c).In_ok-set in
-    let past = past-one c.in_err-reach.field-0.0 set.limit set.pairs (start_pair start) (pair_at set.sets start.0 c.in_ok-set.set) is c.in_err-reach.ensures.limit in
+    let past = past-one c.in_err-reach.field-0.0 set.limit set.pairs (start_pair start)
+    (pair_at set.sets start.0 c.in_ok-set.set) is c.in_err-reach.ensures.limit in
     rw (p.1, p.2)
     (past-whole c.in_err-reach.field-0.0 a (record b { pairs = set }) (map start_pair (take c.loop-p.p-index c.args.starts.now)) (start_pair start ∷ [])
     (map start_pair (drop (c.loop-p.p-index + 1) c.args.starts.now)) (map start_pair c.args.starts.now) has.limit has.pairs past
@@ -73,13 +77,15 @@ loop-p-preserved c =
           subst (HasStarted a (record b { pairs = c.reach.new.self })) (sym (map_more start_pair c.args.starts.now c.loop-p.p-index (0, 0) c.loop-p-test.true))
           (started-one a (record b { pairs = set }) c.reach.new.self done (start_pair start) grown has);
       posts = λ system posts.
-          posts-kept (record b { pairs = set }) (record b { pairs = c.reach.new.self }) refl (λ n other here. subst (λ (p : Interned). StandsAt p.sets n other) (sym c.in_ok-reach.ensures.ok) here) system
+          posts-kept (record b { pairs = set }) (record b { pairs = c.reach.new.self }) refl
+          (λ n other here. subst (λ (p : Interned). StandsAt p.sets n other) (sym c.in_ok-reach.ensures.ok) here) system
           (posts-numbered b set (start.1 ∷ []) c.in_ok-set.ensures.ok system (c.loop-p.invariant.posts system posts));
     }
 
 pub returns-clause-ok : goal.returns-clause-ok
 returns-clause-ok c =
-    subst (HasStarted c.args.self.now c.loop-p.self) (ap (map start_pair) (take_all c.loop-p.p-index c.args.starts.now c.loop-p-test.false)) c.loop-p.invariant.started
+    subst (HasStarted c.args.self.now c.loop-p.self)
+    (ap (map start_pair) (take_all c.loop-p.p-index c.args.starts.now c.loop-p-test.false)) c.loop-p.invariant.started
 
 pub returns-clause-posts : goal.returns-clause-posts
 returns-clause-posts c = c.loop-p.invariant.posts

@@ -14,6 +14,7 @@ returns-then-place-len-clause-knows c p q m knows =
     let number : slice_index (set places (c.args.row * width + c.args.column) (c.args.n + 1)) (p * width + q) ≡ m + 1 =
     subst (λ i. slice_index (set places i (c.args.n + 1)) (p * width + q) ≡ m + 1) c.place-place.ensures knows.number in
     elim (kept-or-put width places c.args.row c.args.column c.args.n c.requires.column within p q m knows.in_range number) [
-      | inl before ↦ inl (record { in_range = knows.in_range; within = omega (arith, knows.within, length-set places c.place-place.result (c.args.n + 1)); number = before })
+      | inl before ↦ inl (record
+          { in_range = knows.in_range; within = omega (arith, knows.within, length-set places c.place-place.result (c.args.n + 1)); number = before })
       | inr new ↦ inr new
     ]

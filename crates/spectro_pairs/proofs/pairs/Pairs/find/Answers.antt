@@ -14,18 +14,22 @@ use Rattle.spectro_pairs.proofs.pairs.Pairs.find.Goals.{In_ok-set}
 number : (c : In_ok-set) → position (is_same_key (record { state = c.args.state; set = c.in_ok-set.set })) c.self.inside.keys.keys
     ≡ position (is_same_pair (record { state = c.args.state; set = c.args.set.now })) (pairs_of (lists_of c.self.inside.sets.keys) c.self.inside.keys.keys)
 number c =
-    position-set (lists_of c.self.inside.sets.keys) c.self.invariant.once (record { state = c.args.state; set = c.in_ok-set.set }) c.args.set.now c.self.inside.keys.keys
+    position-set (lists_of c.self.inside.sets.keys) c.self.invariant.once
+    (record { state = c.args.state; set = c.in_ok-set.set }) c.args.set.now c.self.inside.keys.keys
     (found-lists c.args.set.now c.self.inside.sets.keys c.in_ok-set.set (sym c.in_ok-set.ensures.index)) c.self.invariant.numbered
 
 pub returns-in_err-set : goal.returns-in_err-set
 returns-in_err-set c =
-    let none : list_any (bytes_eq c.args.set.now) (lists_of c.self.inside.sets.keys) ≡ false = sym (c.in_err-set.ensures.found ∙ any-lists c.args.set.now c.self.inside.sets.keys) in
+    let none : list_any (bytes_eq c.args.set.now) (lists_of c.self.inside.sets.keys) ≡ false = sym (c.in_err-set.ensures.found
+    ∙ any-lists c.args.set.now c.self.inside.sets.keys) in
     subst (λ (v : Interned). c.from_residual.result ≡ position (is_same_pair (record { state = c.args.state; set = c.args.set.now })) v.pairs) c.self.view_is
-    (c.from_residual.ensures ∙ sym (position-no_set (lists_of c.self.inside.sets.keys) c.args.state c.args.set.now none c.self.inside.keys.keys c.self.invariant.numbered))
+    (c.from_residual.ensures
+    ∙ sym (position-no_set (lists_of c.self.inside.sets.keys) c.args.state c.args.set.now none c.self.inside.keys.keys c.self.invariant.numbered))
 
 pub returns-in_err-k : goal.returns-in_err-k
 returns-in_err-k c =
-    subst (λ (v : Interned). c.from_residual-in_err-k.result ≡ position (is_same_pair (record { state = c.args.state; set = c.args.set.now })) v.pairs) c.self.view_is
+    subst (λ (v : Interned). c.from_residual-in_err-k.result ≡ position
+    (is_same_pair (record { state = c.args.state; set = c.args.set.now })) v.pairs) c.self.view_is
     (c.from_residual-in_err-k.ensures ∙ c.in_err-k.ensures.index
     ∙ number (goal.at.returns-in_err-k c).In_ok-set)
 

@@ -21,4 +21,5 @@ returns-clause-half c = omega (arith, half-limit c.self.invariant, c.len.ensures
 pub returns-clause-within : goal.returns-clause-within
 returns-clause-within c =
     let inside = c.self.inside in
-    subst (λ (v : Interned). All (IsPairWithin v.states) v.pairs) c.self.view_is (pairs-within inside.states inside.limit inside.size inside.known inside.sets.keys inside.keys.keys c.self.invariant)
+    subst (λ (v : Interned). All (IsPairWithin v.states) v.pairs) c.self.view_is
+    (pairs-within inside.states inside.limit inside.size inside.known inside.sets.keys inside.keys.keys c.self.invariant)

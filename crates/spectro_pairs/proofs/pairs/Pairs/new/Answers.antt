@@ -5,7 +5,8 @@ use Rattle.spectro_pairs.proofs.pairs.Pairs.new.Goals as goal
 
 pub invariant_of-result : goal.invariant_of-result
 invariant_of-result c =
-    interned-nil c.args.states c.args.limit c.in_ok-known.known c.new-2.result.keys c.new-3.result.keys c.new-2.ensures.empty c.new-3.ensures.empty c.requires c.in_ok-known.ensures.width c.in_ok-known.ensures.nothing
+    interned-nil c.args.states c.args.limit c.in_ok-known.known c.new-2.result.keys c.new-3.result.keys c.new-2.ensures.empty c.new-3.ensures.empty
+    c.requires c.in_ok-known.ensures.width c.in_ok-known.ensures.nothing
 
 pub returns : goal.returns
 unfolding lists_of pairs_of

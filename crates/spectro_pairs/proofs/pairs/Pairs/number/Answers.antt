@@ -50,13 +50,16 @@ sized : (c : After-weight) → let with_pair = size (with_last is_same_pair (pai
 sized c =
     let below = rw (← c.self.view_is) at c.requires.set in
     let whole = new-size c.self.invariant (key_of c.args.state c.args.set) below (sym c.in_default.ensures.found) in
-    let one = weight-new c.self.invariant (key_of c.args.state c.args.set) below c.index.result.now c.len.result c.weight.result c.index.ensures c.len.ensures c.weight.ensures.few c.weight.ensures.many in
+    let one = weight-new c.self.invariant
+    (key_of c.args.state c.args.set) below c.index.result.now c.len.result c.weight.result c.index.ensures c.len.ensures c.weight.ensures.few
+    c.weight.ensures.many in
     (omega (arith, whole, one.0, c.from.ensures), λ small. omega (arith, whole, one.1 (omega (arith, small)), c.from.ensures))
 
 pub returns-then-size-from-clause-limit : goal.returns-then-size-from-clause-limit
 returns-then-size-from-clause-limit c =
     subst
-    (λ (v : Interned). (v.limit < c.from.result + c.weight.result) × (c.from.result + c.weight.result ≤ size (with_last is_same_pair v.pairs (pair_at v.sets c.args.state c.args.set))))
+    (λ (v : Interned). (v.limit < c.from.result + c.weight.result)
+    × (c.from.result + c.weight.result ≤ size (with_last is_same_pair v.pairs (pair_at v.sets c.args.state c.args.set))))
     c.self.view_is
     (omega (arith, c.if-size-from.true, c.from-2.ensures), (sized (goal.at.returns-then-size-from-clause-limit c).After-weight).0)
 
@@ -68,7 +71,8 @@ invariant_of-self-2 c =
     let bound = c.self.invariant.bound in
     let small : c.from.result + c.weight.result ≤ c.self.inside.limit = omega (arith, c.if-size-from.false, c.from-2.ensures) in
     let exact = (sized (goal.at.invariant_of-self-2 c).After-weight).1 (omega (arith, small, bound)) in
-    interned-key c.self.invariant (key_of c.args.state c.args.set) below (c.from.result + c.weight.result) c.insert_full.new.self.keys c.in_ok-k.ensures.keys in_range exact small
+    interned-key c.self.invariant (key_of c.args.state c.args.set) below
+    (c.from.result + c.weight.result) c.insert_full.new.self.keys c.in_ok-k.ensures.keys in_range exact small
 
 pub overflow_cast-result-2 : goal.overflow_cast-result-2
 overflow_cast-result-2 c =
@@ -80,7 +84,8 @@ unfolding with_last
 returns-clause-ok c =
     let below = rw (← c.self.view_is) at c.requires.set in
     subst
-    (λ (v : Interned). interned c.self.inside.states c.self.inside.limit c.self.inside.sets.keys c.insert_full.new.self.keys ≡ record v { pairs = with_last is_same_pair v.pairs (pair_at v.sets c.args.state c.args.set) })
+    (λ (v : Interned). interned c.self.inside.states c.self.inside.limit c.self.inside.sets.keys c.insert_full.new.self.keys ≡ record v
+    { pairs = with_last is_same_pair v.pairs (pair_at v.sets c.args.state c.args.set) })
     c.self.view_is
     (λ i. record {
       states = c.self.inside.states;
@@ -93,6 +98,7 @@ pub returns-clause-number : goal.returns-clause-number
 returns-clause-number c =
     let stored = c.in_ok-k.ensures.stored in
     let e : key_of c.args.state c.args.set ≡ stored.0 = same_key-equal (key_of c.args.state c.args.set) stored.0 stored.2 in
-    subst (λ (v : Interned). StandsAt (pairs_of (lists_of c.self.inside.sets.keys) c.insert_full.new.self.keys) c.in_ok-k.k (pair_at v.sets c.args.state c.args.set)) c.self.view_is
+    subst (λ (v : Interned). StandsAt (pairs_of (lists_of c.self.inside.sets.keys) c.insert_full.new.self.keys) c.in_ok-k.k
+    (pair_at v.sets c.args.state c.args.set)) c.self.view_is
     (stands-pairs (lists_of c.self.inside.sets.keys) c.insert_full.new.self.keys c.in_ok-k.k (key_of c.args.state c.args.set)
     (subst (StandsAt c.insert_full.new.self.keys c.in_ok-k.k) (sym e) stored.1))

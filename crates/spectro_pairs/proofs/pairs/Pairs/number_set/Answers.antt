@@ -23,7 +23,8 @@ returns-in-Some-clause-bound c = below c
 
 pub returns-in-Some-clause-ok : goal.returns-in-Some-clause-ok
 returns-in-Some-clause-ok c =
-    let known : list_any (bytes_eq c.args.set.now) (lists_of c.self.inside.sets.keys) ≡ true = sym (c.in-Some.ensures.found ∙ any-lists c.args.set.now c.self.inside.sets.keys) in
+    let known : list_any (bytes_eq c.args.set.now) (lists_of c.self.inside.sets.keys) ≡ true = sym (c.in-Some.ensures.found
+    ∙ any-lists c.args.set.now c.self.inside.sets.keys) in
     let same = with_last-known bytes_eq (lists_of c.self.inside.sets.keys) c.args.set.now known in
     subst (λ (v : Interned). v ≡ record v { sets = with_last bytes_eq v.sets c.args.set.now }) c.self.view_is
     (λ i. record {
@@ -35,12 +36,14 @@ returns-in-Some-clause-ok c =
 
 pub returns-in-Some-clause-number : goal.returns-in-Some-clause-number
 returns-in-Some-clause-number c =
-    subst (λ (v : Interned). StandsAt v.sets c.in-Some.no c.args.set.now) c.self.view_is (found-lists c.args.set.now c.self.inside.sets.keys c.in-Some.no (sym c.in-Some.ensures.index))
+    subst (λ (v : Interned). StandsAt v.sets c.in-Some.no c.args.set.now) c.self.view_is
+    (found-lists c.args.set.now c.self.inside.sets.keys c.in-Some.no (sym c.in-Some.ensures.index))
 
 -- there is at most one set more
 longer : (sets : List (List ℕ)) (set : List ℕ) → length (with_last bytes_eq sets set) ≤ length sets + 1
 longer sets set =
-    with_last-cases bytes_eq set-equal set-itself (λ l. length l ≤ length sets + 1) sets set (λ known. omega arith) (λ new. omega (arith, length-append sets (set ∷ [])))
+    with_last-cases bytes_eq set-equal set-itself (λ l. length l ≤ length sets + 1) sets set (λ known. omega arith)
+    (λ new. omega (arith, length-append sets (set ∷ [])))
 
 -- the set went last
 put : (c : goal.In_ok-no) → lists_of c.insert_full.new.self.keys ≡ with_last bytes_eq (lists_of c.self.inside.sets.keys) c.args.set.now
@@ -50,12 +53,21 @@ put c =
 
 pub invariant_of-self-2 : goal.invariant_of-self-2
 invariant_of-self-2 c =
-    interned-set c.self.invariant c.insert_full.new.self.keys c.args.set.now (put c) (subst (λ (v : Interned). IsSetWithin v.states c.args.set.now) (sym c.self.view_is) c.requires)
-    (omega (arith, ap length (put c), longer (lists_of c.self.inside.sets.keys) c.args.set.now, c.if-len-ge-MAX_SETS.false, c.len.ensures.len, length-lists_of c.self.inside.sets.keys))
+    interned-set c.self.invariant c.insert_full.new.self.keys c.args.set.now (put c)
+    (subst (λ (v : Interned). IsSetWithin v.states c.args.set.now) (sym c.self.view_is) c.requires)
+    (omega (
+      arith,
+      ap length (put c),
+      longer (lists_of c.self.inside.sets.keys) c.args.set.now,
+      c.if-len-ge-MAX_SETS.false,
+      c.len.ensures.len,
+      length-lists_of c.self.inside.sets.keys,
+    ))
 
 pub returns-clause-ok : goal.returns-clause-ok
 returns-clause-ok c =
-    subst (λ (v : Interned). interned c.self.inside.states c.self.inside.limit c.insert_full.new.self.keys c.self.inside.keys.keys ≡ record v { sets = with_last bytes_eq v.sets c.args.set.now })
+    subst (λ (v : Interned). interned c.self.inside.states c.self.inside.limit c.insert_full.new.self.keys c.self.inside.keys.keys ≡ record v
+    { sets = with_last bytes_eq v.sets c.args.set.now })
     c.self.view_is
     (λ i. record {
       states = c.self.inside.states;
@@ -67,5 +79,6 @@ returns-clause-ok c =
 pub returns-clause-number : goal.returns-clause-number
 returns-clause-number c =
     let stored = c.in_ok-no.ensures.stored in
-    let same : bytes_eq c.args.set.now stored.0.items ≡ true = subst (λ (l : List ℕ). bytes_eq l stored.0.items ≡ true) c.in_ok-from_slice.ensures.items stored.2 in
+    let same : bytes_eq c.args.set.now stored.0.items ≡ true = subst
+    (λ (l : List ℕ). bytes_eq l stored.0.items ≡ true) c.in_ok-from_slice.ensures.items stored.2 in
     stands-same c.insert_full.new.self.keys c.in_ok-no.no stored.0 c.args.set.now stored.1 same

@@ -27,7 +27,8 @@ pub returns-in-Some-clause-ok : goal.returns-in-Some-clause-ok
 returns-in-Some-clause-ok c =
     let below = rw (← c.self.view_is) at c.requires.set in
     let key = key_of c.args.state c.args.set in
-    let found = stands-any is_same_key same_key-equal same_key-itself key c.self.inside.keys.keys c.in-Some.k (here (goal.at.returns-in-Some-clause-ok c).In-Some) in
+    let found = stands-any is_same_key same_key-equal same_key-itself key c.self.inside.keys.keys c.in-Some.k
+    (here (goal.at.returns-in-Some-clause-ok c).In-Some) in
     let same = known-pair c.self.invariant key below found in
     subst (λ (v : Interned). v ≡ record v { pairs = with_last is_same_pair v.pairs (pair_at v.sets c.args.state c.args.set) }) c.self.view_is
     (λ i. record {
@@ -40,26 +41,37 @@ returns-in-Some-clause-ok c =
 pub returns-in-Some-clause-number : goal.returns-in-Some-clause-number
 returns-in-Some-clause-number c =
     subst (λ (v : Interned). StandsAt v.pairs c.in-Some.k (pair_at v.sets c.args.state c.args.set)) c.self.view_is
-    (stands-pairs (lists_of c.self.inside.sets.keys) c.self.inside.keys.keys c.in-Some.k (key_of c.args.state c.args.set) (here (goal.at.returns-in-Some-clause-number c).In-Some))
+    (stands-pairs (lists_of c.self.inside.sets.keys) c.self.inside.keys.keys c.in-Some.k (key_of c.args.state c.args.set)
+    (here (goal.at.returns-in-Some-clause-number c).In-Some))
 
 -- the key stands at the number that was found
 found : (states limit n : ℕ) (known : Known) (sets : List (Vec ℕ Global)) (keys : List Key) → AreInterned states limit n known sets keys
-    → (before now : Interned) → interned states limit sets keys ≡ now → (state set k : ℕ) → now ≡ record before { pairs = with_last is_same_pair before.pairs (pair_at before.sets state set) }
+    → (before now : Interned) → interned states limit sets keys ≡ now → (state set k : ℕ)
+    → now ≡ record before { pairs = with_last is_same_pair before.pairs (pair_at before.sets state set) }
     → set < length before.sets → StandsAt now.pairs k (pair_at before.sets state set) → StandsAt keys k (key_of state set)
 found states limit n known sets keys well before now view state set k put below here =
     let same : now.sets ≡ before.sets = ap (λ (v : Interned). v.sets) put in
     let stands = subst (λ (l : List (List ℕ)). StandsAt now.pairs k (pair_at l state set)) (sym same) here in
     let kept = subst (λ (v : Interned). StandsAt v.pairs k (pair_at v.sets state set)) (sym view) stands in
-    key-here (lists_of sets) well.once keys k (key_of state set) (omega (arith, below, ap length same, ap (λ (v : Interned). length v.sets) view)) well.numbered kept
+    key-here (lists_of sets) well.once keys k (key_of state set)
+    (omega (arith, below, ap length same, ap (λ (v : Interned). length v.sets) view)) well.numbered kept
 
 pub put-requires-clause-column : goal.put-requires-clause-column
 put-requires-clause-column c =
-    omega (arith, c.requires.state, c.self-2.invariant.wide, ap (λ (v : Interned). v.states) c.self-2.view_is, ap (λ (v : Interned). v.states) c.in_ok-k.ensures.ok)
+    omega (
+      arith,
+      c.requires.state,
+      c.self-2.invariant.wide,
+      ap (λ (v : Interned). v.states) c.self-2.view_is,
+      ap
+          (λ (v : Interned). v.states) c.in_ok-k.ensures.ok,
+    )
 
 pub put-requires-clause-bound : goal.put-requires-clause-bound
 put-requires-clause-bound c =
     let inside = c.self-2.inside in
-    let here = found inside.states inside.limit inside.size inside.known inside.sets.keys inside.keys.keys c.self-2.invariant c.args.self.now c.number.new.self c.self-2.view_is
+    let here = found inside.states inside.limit inside.size inside.known inside.sets.keys inside.keys.keys c.self-2.invariant c.args.self.now
+    c.number.new.self c.self-2.view_is
     c.args.state c.args.set c.in_ok-k.k c.in_ok-k.ensures.ok c.requires.set c.in_ok-k.ensures.number in
     let bound = c.self-2.invariant.bound in
     omega (arith, half-limit c.self-2.invariant, bound, stands-below c.self-2.inside.keys.keys c.in_ok-k.k (key_of c.args.state c.args.set) here)
@@ -67,6 +79,7 @@ put-requires-clause-bound c =
 pub invariant_of-self : goal.invariant_of-self
 invariant_of-self c =
     let inside = c.self-2.inside in
-    let here = found inside.states inside.limit inside.size inside.known inside.sets.keys inside.keys.keys c.self-2.invariant c.args.self.now c.number.new.self c.self-2.view_is
+    let here = found inside.states inside.limit inside.size inside.known inside.sets.keys inside.keys.keys c.self-2.invariant c.args.self.now
+    c.number.new.self c.self-2.view_is
     c.args.state c.args.set c.in_ok-k.k c.in_ok-k.ensures.ok c.requires.set c.in_ok-k.ensures.number in
     interned-known c.self-2.invariant c.args.set c.args.state c.in_ok-k.k c.put.new.self c.put.ensures.width here c.put.ensures.knows

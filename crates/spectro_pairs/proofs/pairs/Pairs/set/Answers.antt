@@ -19,7 +19,8 @@ index-key-requires c =
 pub index-requires : goal.index-requires
 index-requires c =
     let below : c.index-key.result.now.set < length (lists_of c.self.inside.sets.keys) =
-    holds-at (λ (key : Key). key.set < length (lists_of c.self.inside.sets.keys)) c.self.inside.keys.keys c.args.k c.index-key.result.now c.self.invariant.numbered c.index-key.ensures in
+    holds-at (λ (key : Key). key.set < length
+    (lists_of c.self.inside.sets.keys)) c.self.inside.keys.keys c.args.k c.index-key.result.now c.self.invariant.numbered c.index-key.ensures in
     omega (arith, below, length-lists_of c.self.inside.sets.keys)
 
 -- the set stands at its number, and the pair at its own
@@ -28,7 +29,8 @@ here c = subst (StandsAt (lists_of c.self.inside.sets.keys) c.index-key.result.n
     (stands-lists c.self.inside.sets.keys c.index-key.result.now.set c.index.result.now c.index.ensures)
 
 pair-here : (c : goal.After-as_slice)
-    → StandsAt (pairs_of (lists_of c.self.inside.sets.keys) c.self.inside.keys.keys) c.args.k (record { state = c.index-key.result.now.state; set = c.as_slice.result.now })
+    → StandsAt (pairs_of (lists_of c.self.inside.sets.keys) c.self.inside.keys.keys) c.args.k
+    (record { state = c.index-key.result.now.state; set = c.as_slice.result.now })
 pair-here c = subst (StandsAt (pairs_of (lists_of c.self.inside.sets.keys) c.self.inside.keys.keys) c.args.k)
     (pair_at-set (lists_of c.self.inside.sets.keys) c.index-key.result.now.state c.index-key.result.now.set c.as_slice.result.now (here c))
     (stands-pairs (lists_of c.self.inside.sets.keys) c.self.inside.keys.keys c.args.k c.index-key.result.now c.index-key.ensures)
@@ -41,7 +43,8 @@ returns-clause-set c =
 pub returns-clause-within : goal.returns-clause-within
 returns-clause-within c =
     subst (λ (v : Interned). IsSetWithin v.states c.as_slice.result.now) c.self.view_is
-    (holds-at (IsSetWithin c.self.inside.states) (lists_of c.self.inside.sets.keys) c.index-key.result.now.set c.as_slice.result.now c.self.invariant.within (here c))
+    (holds-at (IsSetWithin c.self.inside.states) (lists_of c.self.inside.sets.keys) c.index-key.result.now.set c.as_slice.result.now c.self.invariant.within
+    (here c))
 
 pub returns-clause-few : goal.returns-clause-few
 returns-clause-few c =

@@ -7,4 +7,5 @@ pub invariant_of-self-2 : goal.invariant_of-self-2
 invariant_of-self-2 c = rw c.in_ok-push.ensures.items (ends-more 0 c.self.inside.ends.items c.self.inside.numbers.items (c.args.number ∷ []) c.self.invariant)
 
 pub returns-clause-ok : goal.returns-clause-ok
-returns-clause-ok c = rows_of-more c.self.inside.ends.items c.self.inside.numbers.items c.push.new.self.items c.args.number _ c.self.invariant c.self.view_is c.in_ok-push.ensures.items
+returns-clause-ok c = rows_of-more c.self.inside.ends.items c.self.inside.numbers.items c.push.new.self.items c.args.number _ c.self.invariant
+    c.self.view_is c.in_ok-push.ensures.items

@@ -6,7 +6,8 @@ use Rattle.spectro_pairs.proofs.RowLists.{number_below, row-within, row_read}
 use Rattle.spectro_pairs.proofs.rows.Rows.row.Goals as goal
 
 pub start-from-requires : goal.start-from-requires
-start-from-requires c = rw c.deref.ensures.value (number_below _ c.self.inside.numbers.items _ c.args.k (ap (λ (r : RowList). r.rows) c.self.view_is) c.requires)
+start-from-requires c = rw c.deref.ensures.value
+    (number_below _ c.self.inside.numbers.items _ c.args.k (ap (λ (r : RowList). r.rows) c.self.view_is) c.requires)
 
 pub index-requires : goal.index-requires
 index-requires c =

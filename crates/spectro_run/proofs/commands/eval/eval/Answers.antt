@@ -73,7 +73,7 @@ returns-clause-prepared g c =
     let weights = rw c.in_ok-lts.ensures.texts at c.in_ok-weights.ensures.stage in
     let truth = subst (λ formula. IsTrue found.truth ↔ Satisfies system system.initial formula) parsed.unfolds c.in_ok-evaluate.ensures.truth in
     let costs : price_of found.price.parts ≡ price c.in_ok-weights.weights parsed.formula = c.in_ok-evaluate.ensures.price
-        ∙ ap (price c.in_ok-weights.weights) parsed.unfolds in
+    ∙ ap (price c.in_ok-weights.weights) parsed.unfolds in
     let shown = c.in_ok-evaluate.ensures.parts ∙ c.parts_shown-parts.ensures in
     record {
       held = files_held file.held None weights.held;

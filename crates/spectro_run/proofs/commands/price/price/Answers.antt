@@ -68,7 +68,7 @@ returns-clause-prepared g c =
     let weights = c.in_ok-weights.ensures.stage in
     let text : c.in_ok-text.text ≡ formula_text parsed.formula = c.in_ok-text.ensures ∙ ap formula_text parsed.unfolds in
     let costs : price_of c.in_ok-price.price.parts ≡ spec.price c.in_ok-weights.weights parsed.formula = c.in_ok-price.ensures
-        ∙ ap (spec.price c.in_ok-weights.weights) parsed.unfolds in
+    ∙ ap (spec.price c.in_ok-weights.weights) parsed.unfolds in
     record {
       held = files_held None None weights.held;
       are = are-held (g.H.Source.texts c.args.shelf.now) (price c.args.formula.now (named c.args.weights)) None None weights.held refl refl weights.is;

@@ -25,7 +25,7 @@ returns-in-Err-TooLarge-clause-stopped c =
     refused tt (
       refl,
       past_limit c.args.left.now c.args.right.now c.in_ok-both.both c.initial.result second c.args.limit c.in-Err-TooLarge.field-0-0 c.in_ok-both.ensures
-      c.initial.ensures.value
+          c.initial.ensures.value
           (omega (arith, c.states.ensures.value, c.initial-2.ensures.value))
           (λ pairs reached. subst (λ e. IsPastLimit e c.args.limit (size pairs)) c.in-Err-TooLarge.field-0-is (c.in-Err-TooLarge.ensures.limit pairs reached)),
     )

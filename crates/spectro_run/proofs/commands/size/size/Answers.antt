@@ -44,9 +44,9 @@ returns-clause-prepared g c =
       ends =
           ends-as c.extent_of.result c.extent_of.ensures.ok c.extent_of.ensures.stopped
           (λ extent is. given c.in_ok-left.left first.ends
-              (given c.in_ok-right.right second.ends (given is.pairs is.are (refl, λ i. size_line (is.counted i) (is.sized i)))))
+          (given c.in_ok-right.right second.ends (given is.pairs is.are (refl, λ i. size_line (is.counted i) (is.sized i)))))
           (λ status stopped. stops-behind _ _ c.in_ok-left.left status first.ends (λ failed. failed)
-              (stops-behind _ _ c.in_ok-right.right status second.ends (λ failed. failed) (stops-first _ _ status (λ failed. absurd failed) stopped)));
+          (stops-behind _ _ c.in_ok-right.right status second.ends (λ failed. failed) (stops-first _ _ status (λ failed. absurd failed) stopped)));
     }
 
 pub returns-clause-counts : goal.returns-clause-counts

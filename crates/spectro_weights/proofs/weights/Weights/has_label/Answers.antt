@@ -4,4 +4,5 @@ use Rattle.spectro_weights.proofs.Entries.{is_set-weighing_of}
 use Rattle.spectro_weights.proofs.weights.Weights.has_label.Goals as goal
 
 pub returns : goal.returns
-returns c = c.contains_key.ensures ∙ sym (is_set-weighing_of c.args.label.now c.self.inside.weights.entries) ∙ ap (λ weighing. is_set weighing c.args.label.now) c.self.view_is
+returns c = c.contains_key.ensures ∙ sym (is_set-weighing_of c.args.label.now c.self.inside.weights.entries)
+    ∙ ap (λ weighing. is_set weighing c.args.label.now) c.self.view_is

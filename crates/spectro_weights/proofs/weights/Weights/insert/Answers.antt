@@ -19,7 +19,8 @@ invariant_of-self-2 c =
     record {
       distinct = IsDistinct-weighing_of c.insert.new.self.entries c.in_ok-insert.ensures.unique;
       few = rw (placed c) (few-with_weight label c.args.weight c.args.self.now few c.requires.room);
-      weights = rw (placed c, ← c.self.view_is) (IsWeighing-with_weight label c.args.weight light (weighing_of c.self.inside.weights.entries) c.self.invariant.weights);
+      weights = rw (placed c, ← c.self.view_is)
+          (IsWeighing-with_weight label c.args.weight light (weighing_of c.self.inside.weights.entries) c.self.invariant.weights);
     }
 
 pub returns-clause-list : goal.returns-clause-list

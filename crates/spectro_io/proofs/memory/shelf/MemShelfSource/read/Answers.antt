@@ -9,4 +9,6 @@ returns-clause-bytes c =
     let s = c.self.inside in
     let count = c.copy_front-count.result in
     let before = ap (λ state. state.left) c.self.view_is in
-    rw (← before) (reads-front c.left_bytes-left.result.now (left_of s.texts.entries s.current s.at) (left_of s.texts.entries s.current (s.at + count)) c.copy_front-count.new.buf s.most (length c.args.buf.now) count (c.left_bytes-left.ensures) (left_of-more s.texts.entries s.current s.at count) c.self.invariant.1 c.requires c.copy_front-count.ensures.count c.copy_front-count.ensures.front)
+    rw (← before) (reads-front c.left_bytes-left.result.now (left_of s.texts.entries s.current s.at)
+    (left_of s.texts.entries s.current (s.at + count)) c.copy_front-count.new.buf s.most (length c.args.buf.now) count (c.left_bytes-left.ensures)
+    (left_of-more s.texts.entries s.current s.at count) c.self.invariant.1 c.requires c.copy_front-count.ensures.count c.copy_front-count.ensures.front)

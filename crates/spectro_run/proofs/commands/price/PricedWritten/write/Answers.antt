@@ -20,7 +20,7 @@ returns-in_err-put_price_line-clause-bytes g c =
     let text = rw (c.new-batch.ensures, c.as_bytes.ensures.value, c.as_str.ensures) at c.in_ok-put.ensures.bytes in
     let line = pending-more _ _ _ _ _ _ _ text c.in_ok-put-2.ensures.bytes in
     rw p.1 (subst (AppendsPart _ _) (sym (priced-pieces c.args.self.now.text c.args.self.now.parts (price_of c.args.self.now.price.parts)))
-        (pending-part _ _ _ _ _ _ line c.in_err-put_price_line.ensures.bytes))
+    (pending-part _ _ _ _ _ _ line c.in_err-put_price_line.ensures.bytes))
 
 pub returns-clause-bytes : goal.returns-clause-bytes
 returns-clause-bytes g c =
