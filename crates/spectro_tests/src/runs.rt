@@ -27,18 +27,22 @@ const ONE_STEP: &str = "des (0, 1, 2)\n(0, a, 1)\n";
 // The second line is cut off.
 const CUT: &str = "des (0,1,2)\n(0,a";
 
+// The first line is no header.
+const HEADLESS: &str = "states 1\ndes (0, 0, 1)\n";
+
 // The label a costs nothing, and b costs five.
 const WEIGHTS: &str = "0 \"a\"\n5 \"b\"\n";
 
 // The second line weighs a label again.
 const TWICE: &str = "1 \"a\"\n2 \"a\"\n";
 
-const FILES: [(&str, &str); 7] = [
+const FILES: [(&str, &str); 8] = [
     ("stopped.aut", STOPPED),
     ("step.aut", ONE_STEP),
     ("early.aut", EARLY_CHOICE),
     ("late.aut", LATE_CHOICE),
     ("cut.aut", CUT),
+    ("headless.aut", HEADLESS),
     ("weights.txt", WEIGHTS),
     ("twice.txt", TWICE),
 ];

@@ -39,6 +39,19 @@ fn a_fault_of_the_shelf_is_answered_wherever_it_comes(rt: HostRuntime) -> Result
     Ok(())
 }
 
+// The file is opened in call 1 of the shelf and read in calls 2 to 6, of which the first has the fault and the last finds the
+// end.
+#[test]
+fn a_text_is_judged_when_it_was_read_to_its_end(rt: HostRuntime) -> Result<(), Fail> {
+    let line = "rewrite headless.aut";
+    for call in 1..7 {
+        stops(&rt, rt.alloc(), line, [call, 0, 0], 5, "", CANNOT_READ)?;
+    }
+    let fault = "spectro: headless.aut:1: NoHeader\n";
+    stops(&rt, rt.alloc(), line, [7, 0, 0], 3, "", fault)?;
+    Ok(())
+}
+
 // The output takes one byte a call.
 #[test]
 fn a_fault_of_the_output_is_answered_wherever_it_comes(rt: HostRuntime) -> Result<(), Fail> {
