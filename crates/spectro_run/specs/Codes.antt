@@ -1,5 +1,7 @@
--- The exit code of each status.
+-- The exit code of each status, and the status of a text that was not read.
 use Rattle.std.specs.Prelude.{ℕ}
+use Rattle.spectro_io.specs.declared.read.ReadError.{ReadError}
+use Rattle.spectro_io.specs.declared.read.ReadError.TheVariants as unread
 use Rattle.spectro_run.specs.declared.status.Status.{Status}
 use Rattle.spectro_run.specs.declared.status.Status.TheVariants.{Done, No, Usage, BadText, TooLarge, ReadFault, WriteFault, OutOfMemory}
 
@@ -12,3 +14,7 @@ code_of (TooLarge limit) = 4
 code_of ReadFault = 5
 code_of WriteFault = 6
 code_of OutOfMemory = 7
+
+abbrev pub status_of : ReadError → Status
+status_of unread.Failed = ReadFault
+status_of unread.OutOfMemory = OutOfMemory

@@ -40,14 +40,15 @@ pub record Counts {T : Type 0} (before now : ℕ) (result : Result T Status) : T
   pub kept : KeepsCount before now result
 
 -- a stage of what the file of the name holds, if there is one
-pub record TakesStage {T : Type 0} (told : Option Texts) (name : Option Word) (stage : Option (List ℕ)
-    → Stage T) (ShelfFailed : Type 0) (result : Result T Status) : Type 0 where
+pub record TakesStage {T : Type 0} (told : Option Texts) (name : Option Word) (stage : Option (List ℕ) → Stage T) (ShelfFailed : Type 0)
+    (result : Result T Status) : Type 0 where
   pub held : Option (List ℕ)
   pub is : IsHeld told name held
   pub ends : EndsStage (stage held) ShelfFailed result
 
 -- what the command has to write, or why it stops
-pub record IsPrepared {T : Type 0} (told : Option Texts) (asked : Command) (text : T → List ℕ) (ShelfFailed : Type 0) (result : Result T Status) : Type 0 where
+pub record IsPrepared {T : Type 0} (told : Option Texts) (asked : Command) (text : T → List ℕ) (ShelfFailed : Type 0)
+    (result : Result T Status) : Type 0 where
   pub held : Held
   pub are : AreHeld told (Some asked) held
   pub ends : MatchResult result (λ value. outcome_of (Some asked) held Done (text value)) (Stops (λ status. outcome_of (Some asked) held status []) ShelfFailed)

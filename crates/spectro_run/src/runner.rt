@@ -60,8 +60,9 @@ fn perform<H: Shelf, O: Sink>(
 /// Does what the words ask for, over the devices, and writes the message of how it ended.
 ///
 /// The order is: the words; opening and reading the left file, then its grammar; the right file likewise; the formula;
-/// opening and reading the weights, then their grammar; the size; the writing. A command skips what it has not. The first refusal that is met is the answer. All memory is taken before
-/// the first byte is written. A message that cannot be written changes nothing of the answer.
+/// opening and reading the weights, then their grammar; the size; the writing. A command skips what it has not. The first
+/// refusal that is met is the answer. All memory is taken before the first byte is written. A message that cannot be written
+/// changes nothing of the answer.
 pub fn run<H: Shelf, I: Source, O: Sink, E: Sink>(
     alloc: Global,
     words: &[String],

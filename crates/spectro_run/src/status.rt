@@ -1,10 +1,11 @@
 ghost use Rattle.std.specs.Prelude.{◌≡◌};
-ghost use Rattle.spectro_run.specs.Codes.{code_of};
+ghost use Rattle.spectro_run.specs.Codes.{code_of, status_of};
 ghost use Rattle.spectro_run.specs.Messages.{kind_name};
 ghost use Rattle.spectro_run.specs.declared.status.Status.TheVariants.{OutOfMemory};
 
 use spectro_aut::AutKind;
 use spectro_hmltext::TextKind;
+use spectro_io::ReadError;
 use spectro_weights::WeightKind;
 use std::alloc::AllocError;
 
@@ -73,6 +74,17 @@ impl From<AllocError> for Status {
 
     fn from(_error: AllocError) -> Status {
         Status::OutOfMemory
+    }
+}
+
+impl From<ReadError> for Status {
+    ghost from_gives = { λ error status. status ≡ status_of error };
+
+    fn from(error: ReadError) -> Status {
+        match error {
+            ReadError::Failed => Status::ReadFault,
+            ReadError::OutOfMemory => Status::OutOfMemory,
+        }
     }
 }
 

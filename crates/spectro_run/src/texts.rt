@@ -59,11 +59,7 @@ fn take_text<H: Shelf>(alloc: Global, name: &str, shelf: &mut H) -> Result<Feed,
     let Ok(true) = shelf.open(name) else {
         return Err(Status::ReadFault);
     };
-    match take_all(alloc, shelf) {
-        Ok(feed) => Ok(feed),
-        Err(ReadError::Failed) => Err(Status::ReadFault),
-        Err(ReadError::OutOfMemory) => Err(Status::OutOfMemory),
-    }
+    Ok(take_all(alloc, shelf)?)
 }
 
 // The system of the text that was taken.
@@ -128,11 +124,7 @@ fn take_bytes<H: Shelf>(alloc: Global, name: &str, shelf: &mut H) -> Result<Vec<
     let Ok(true) = shelf.open(name) else {
         return Err(Status::ReadFault);
     };
-    match read_all(alloc, shelf) {
-        Ok(bytes) => Ok(bytes),
-        Err(ReadError::Failed) => Err(Status::ReadFault),
-        Err(ReadError::OutOfMemory) => Err(Status::OutOfMemory),
-    }
+    Ok(read_all(alloc, shelf)?)
 }
 
 // The weights of the text.

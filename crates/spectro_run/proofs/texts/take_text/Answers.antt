@@ -3,8 +3,8 @@ use Rattle.spectro_io.specs.Shelves.{Opens}
 use Rattle.spectro_run.proofs.Taken.{text_taken}
 use Rattle.spectro_run.proofs.texts.take_text.Goals as goal
 
-pub returns-in-Ok-clause-text : goal.returns-in-Ok-clause-text
-returns-in-Ok-clause-text g c =
-    text_taken (g.H.Source.texts c.args.shelf.now) c.args.name.now (g.H.Source.left c.open.new.self) (g.H.Source.left c.take_all.new.source) c.in-Ok.feed
+pub returns-clause-text : goal.returns-clause-text
+returns-clause-text g c =
+    text_taken (g.H.Source.texts c.args.shelf.now) c.args.name.now (g.H.Source.left c.open.new.self) (g.H.Source.left c.take_all.new.source) c.in_ok-take_all.field-0
     (subst (λ found. Opens (g.H.Source.texts c.args.shelf.now) c.args.name.now found (g.H.Source.left c.open.new.self)) c.in-Ok-true.field-0-test
-    c.in-Ok-true.ensures.opened) c.in-Ok.ensures.all
+    c.in-Ok-true.ensures.opened) c.in_ok-take_all.ensures.all
