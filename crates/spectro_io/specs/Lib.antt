@@ -15,7 +15,6 @@ pub mod Entries
 pub mod LineReaders
 pub mod Buffers
 pub mod LineSteps
-pub mod NumberedLines
 pub mod QuotedLabels
 pub mod ClosingQuotes
 pub mod Unescaping

@@ -22,7 +22,6 @@ mod line_readers;
 #[cfg(test)]
 mod node_lines;
 #[cfg(test)]
-mod numbered_lines;
 #[cfg(test)]
 mod prices;
 #[cfg(test)]
