@@ -5,6 +5,7 @@ ghost use Rattle.spectro_aut.specs.declared.error.AutError.TheVariants.{OutOfMem
 
 use crate::reading::Reading;
 use crate::{AutError, AutFault};
+use spectro_io::Intake;
 use spectro_lines::LineError;
 use spectro_lts::Lts;
 use std::alloc::{AllocError, Global};
@@ -56,5 +57,13 @@ impl Feed {
             })),
             Err(LineError::OutOfMemory) => Err(AutError::OutOfMemory),
         }
+    }
+}
+
+impl Intake for Feed {
+    ghost has_taken = { HasTaken };
+
+    fn take(&mut self, piece: &[u8]) -> Result<(), AllocError> {
+        self.feed(piece)
     }
 }

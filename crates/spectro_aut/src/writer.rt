@@ -5,7 +5,7 @@ ghost use Rattle.spectro_io.specs.Bytes.{WritesWhole};
 ghost use Rattle.spectro_io.specs.Faults.{HasCause};
 ghost use Rattle.spectro_aut.specs.Written.{header_text, step_text, text_of};
 
-use spectro_io::{Batch, Failed, Sink};
+use spectro_io::{Batch, Digits, Failed, Sink};
 use spectro_lts::Lts;
 
 /// Writes the text of the system.
@@ -26,10 +26,21 @@ fn put_header<O: Sink>(lts: &Lts, batch: &mut Batch, out: &mut O) -> Result<(), 
     ensures bytes { Puts (O.written out.old) (O.written out.new) result batch.new (batch.old ++ header_text lts.now) }
     ensures cause { HasCause (O.faults out.old) (O.faults out.new) result }
 {
-    put_field(b"des (", lts.initial(), batch, out)?;
-    put_field(b", ", lts.step_count(), batch, out)?;
-    put_field(b", ", lts.states(), batch, out)?;
-    batch.put(b")\n", out)
+    let initial = digits(lts.initial());
+    let steps = digits(lts.step_count());
+    let states = digits(lts.states());
+    batch.put_all(
+        &[
+            b"des (",
+            initial.as_bytes(),
+            b", ",
+            steps.as_bytes(),
+            b", ",
+            states.as_bytes(),
+            b")\n",
+        ],
+        out,
+    )
 }
 
 fn put_step<O: Sink>(
@@ -42,23 +53,24 @@ fn put_step<O: Sink>(
     ensures bytes { Puts (O.written out.old) (O.written out.new) result batch.new (batch.old ++ step_text (record { source = source; label = label.now; target = target })) }
     ensures cause { HasCause (O.faults out.old) (O.faults out.new) result }
 {
-    put_field(b"(", source, batch, out)?;
-    batch.put(b", \"", out)?;
-    batch.put(label.as_bytes(), out)?;
-    put_field(b"\", ", target, batch, out)?;
-    batch.put(b")\n", out)
+    let source = digits(source);
+    let target = digits(target);
+    batch.put_all(
+        &[
+            b"(",
+            source.as_bytes(),
+            b", \"",
+            label.as_bytes(),
+            b"\", ",
+            target.as_bytes(),
+            b")\n",
+        ],
+        out,
+    )
 }
 
-// Puts a number, and what stands before it.
-fn put_field<O: Sink>(
-    before: &[u8],
-    number: u32,
-    batch: &mut Batch,
-    out: &mut O,
-) -> Result<(), Failed>
-    ensures bytes { Puts (O.written out.old) (O.written out.new) result batch.new (batch.old ++ (before.now ++ decimal number)) }
-    ensures cause { HasCause (O.faults out.old) (O.faults out.new) result }
+fn digits(number: u32) -> Digits
+    ensures { result ≡ decimal number }
 {
-    batch.put(before, out)?;
-    batch.put_number(u64::from(number), out)
+    Digits::of(u64::from(number))
 }

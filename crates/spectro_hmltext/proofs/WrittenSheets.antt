@@ -12,27 +12,23 @@ use Rattle.spectro_hml.specs.Sheets.{SheetNode, see_node, all_node}
 use Rattle.spectro_hmltext.specs.Printed.{label_text}
 use Rattle.spectro_hmltext.specs.SheetTexts.{clause_text, node_text, nodes_text, sheet_text}
 
--- a number with what stands around it behind what is held, in the pieces in which it is put
-pub field-pieces : (held before digits behind : List ℕ) → held ++ (before ++ (digits ++ behind)) ≡ ((held ++ before) ++ digits) ++ behind
-field-pieces held before digits behind = simp append_assoc
-
-six-pieces : (held a b c d e f : List ℕ) → held ++ (a ++ b ++ c ++ d ++ e ++ f) ≡ ((held ++ (a ++ b)) ++ c) ++ (d ++ (e ++ f))
-six-pieces held a b c d e f = simp append_assoc
+six-pieces : (held a b c d e f : List ℕ) → held ++ (a ++ b ++ c ++ d ++ e ++ f) ≡ ((held ++ (a ++ (b ++ []))) ++ c) ++ (d ++ (e ++ (f ++ [])))
+six-pieces held a b c d e f = simp (append_assoc, append-nil)
 
 -- the line of an observation behind what is held, in the pieces in which it is put
 pub observation-pieces : (held : List ℕ) (number : ℕ) (label : Label) (next : ℕ)
-    → held ++ node_text number (see_node label next) ≡ ((held ++ ([] ++ (decimal number ++ codes " see "))) ++ label_text label) ++
-    (codes " " ++ (decimal next ++ codes "\n"))
+    → held ++ node_text number (see_node label next) ≡ ((held ++ (decimal number ++ (codes " see " ++ []))) ++ label_text label) ++
+    (codes " " ++ (decimal next ++ (codes "\n" ++ [])))
 observation-pieces held number label next = six-pieces held (decimal number) (codes " see ") (label_text label) (codes " ") (decimal next) (codes "\n")
 
 -- what stands before the clauses of a line
 abbrev pub conjunction_front : ℕ → List ℕ
-conjunction_front number = [] ++ (decimal number ++ codes " all")
+conjunction_front number = decimal number ++ (codes " all" ++ [])
 
 -- the whole line of a conjunction behind what is held
 pub conjunction-whole : (held : List ℕ) (number : ℕ) (clauses : List Clause)
     → held ++ node_text number (all_node clauses) ≡ ((held ++ conjunction_front number) ++ flat_map clause_text clauses) ++ codes "\n"
-conjunction-whole held number clauses = simp append_assoc
+conjunction-whole held number clauses = simp (append_assoc, append-nil)
 
 -- the same, cut behind a clause
 pub conjunction-parts : (held : List ℕ) (number : ℕ) (clauses : List Clause) (k : ℕ) (d : Clause) → k < length clauses

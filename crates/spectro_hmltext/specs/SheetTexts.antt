@@ -6,9 +6,13 @@ use Rattle.spectro_hml.specs.declared.node.Clause.{Clause}
 use Rattle.spectro_hml.specs.Sheets.{SheetNode, see_node, all_node}
 use Rattle.spectro_hmltext.specs.Printed.{label_text}
 
+-- a space and the sign
+abbrev pub sign : Clause → List ℕ
+sign clause = if clause.positive then codes " +" else codes " -"
+
 -- a space, the sign, and the number of the node
 abbrev pub clause_text : Clause → List ℕ
-clause_text clause = (if clause.positive then codes " +" else codes " -") ++ decimal clause.node
+clause_text clause = sign clause ++ decimal clause.node
 
 -- NUMBER see "LABEL" NUMBER, or NUMBER all and the clauses, and LF
 abbrev pub node_text : ℕ → SheetNode → List ℕ

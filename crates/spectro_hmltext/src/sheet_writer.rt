@@ -5,11 +5,11 @@ ghost use Rattle.spectro_io.specs.Bytes.{WritesWhole};
 ghost use Rattle.spectro_io.specs.Faults.{HasCause};
 ghost use Rattle.spectro_hml.specs.Nodes.{node_shown};
 ghost use Rattle.spectro_hml.specs.Sheets.{all_node, see_node};
-ghost use Rattle.spectro_hmltext.specs.SheetTexts.{clause_text, node_text, sheet_text};
+ghost use Rattle.spectro_hmltext.specs.SheetTexts.{clause_text, node_text, sheet_text, sign};
 
 use crate::label::put_label;
 use spectro_hml::{Clause, Node, Sheet};
-use spectro_io::{Batch, Failed, Sink};
+use spectro_io::{Batch, Digits, Failed, Sink};
 
 /// Writes a line for each node of the sheet.
 pub fn print_sheet<O: Sink>(sheet: &Sheet, out: &mut O) -> Result<(), Failed>
@@ -48,9 +48,9 @@ fn put_observation<O: Sink>(
     ensures bytes { Puts (O.written out.old) (O.written out.new) result batch.new (batch.old ++ node_text number (see_node label.now next)) }
     ensures cause { HasCause (O.faults out.old) (O.faults out.new) result }
 {
-    put_field(b"", number, b" see ", batch, out)?;
+    batch.put_all(&[digits(number).as_bytes(), b" see "], out)?;
     put_label(label, batch, out)?;
-    put_field(b" ", next, b"\n", batch, out)
+    batch.put_all(&[b" ", digits(next).as_bytes(), b"\n"], out)
 }
 
 fn put_conjunction<O: Sink>(
@@ -62,7 +62,7 @@ fn put_conjunction<O: Sink>(
     ensures bytes { Puts (O.written out.old) (O.written out.new) result batch.new (batch.old ++ node_text number (all_node clauses.now)) }
     ensures cause { HasCause (O.faults out.old) (O.faults out.new) result }
 {
-    put_field(b"", number, b" all", batch, out)?;
+    batch.put_all(&[digits(number).as_bytes(), b" all"], out)?;
     for clause in clauses {
         put_clause(*clause, batch, out)?;
     }
@@ -73,25 +73,17 @@ fn put_clause<O: Sink>(clause: Clause, batch: &mut Batch, out: &mut O) -> Result
     ensures bytes { Puts (O.written out.old) (O.written out.new) result batch.new (batch.old ++ clause_text clause) }
     ensures cause { HasCause (O.faults out.old) (O.faults out.new) result }
 {
-    if clause.positive {
-        put_field(b" +", clause.node, b"", batch, out)
-    } else {
-        put_field(b" -", clause.node, b"", batch, out)
-    }
+    batch.put_all(&[sign(clause), digits(clause.node).as_bytes()], out)
 }
 
-// Puts a number, and what stands before and behind it.
-fn put_field<O: Sink>(
-    before: &[u8],
-    number: usize,
-    behind: &[u8],
-    batch: &mut Batch,
-    out: &mut O,
-) -> Result<(), Failed>
-    ensures bytes { Puts (O.written out.old) (O.written out.new) result batch.new (batch.old ++ (before.now ++ (decimal number ++ behind.now))) }
-    ensures cause { HasCause (O.faults out.old) (O.faults out.new) result }
+fn sign(clause: Clause) -> &'static [u8]
+    ensures { result.now ≡ sign clause }
 {
-    batch.put(before, out)?;
-    batch.put_number(number as u64, out)?;
-    batch.put(behind, out)
+    if clause.positive { b" +" } else { b" -" }
+}
+
+fn digits(number: usize) -> Digits
+    ensures { result ≡ decimal number }
+{
+    Digits::of(number as u64)
 }

@@ -1,10 +1,8 @@
 ghost use Rattle.std.specs.Prelude.{◌≡◌, ◌+◌, ◌≤◌, [], ◌++◌, length, OnErr};
-ghost use Rattle.std.specs.Fmt.{decimal};
-ghost use Rattle.spectro_io.specs.Batches.{Puts};
+ghost use Rattle.spectro_io.specs.Batches.{Puts, all_of};
 ghost use Rattle.spectro_io.specs.Bytes.{WritesWhole};
 ghost use Rattle.spectro_io.specs.Faults.{HasCause};
 
-use crate::write::{MOST_DIGITS, put_digits};
 use crate::{Failed, Sink, write_whole};
 use std::marker::Model;
 
@@ -85,15 +83,26 @@ impl Batch {
         Ok(())
     }
 
-    /// Puts the plain decimal digits of the number behind the bytes that are held, and writes these first where
-    /// there is no room. Nothing is held after it failed.
-    pub fn put_number<O: Sink>(&mut self, n: u64, out: &mut O) -> Result<(), Failed>
-        ensures bytes { Puts (O.written out.old) (O.written out.new) result self.new (self.old ++ decimal n) }
+    /// Puts the texts behind the bytes that are held, one after the other, and writes what is held where there is
+    /// no room. Nothing is held after it failed.
+    pub fn put_all<O: Sink>(&mut self, texts: &[&[u8]], out: &mut O) -> Result<(), Failed>
+        ensures bytes { Puts (O.written out.old) (O.written out.new) result self.new (self.old ++ all_of texts.now) }
         ensures held { OnErr result (self.new ≡ []) }
         ensures cause { HasCause (O.faults out.old) (O.faults out.new) result }
     {
-        let mut buffer = [0u8; MOST_DIGITS];
-        let start = put_digits(n, &mut buffer);
-        self.put(&buffer[start..], out)
+        for text in texts {
+            self.put(text, out)?;
+        }
+        Ok(())
     }
+}
+
+/// Writes the texts, one after the other, in as few calls as a batch takes.
+pub fn write_all<O: Sink>(texts: &[&[u8]], out: &mut O) -> Result<(), Failed>
+    ensures bytes { WritesWhole (O.written out.old) (O.written out.new) result (all_of texts.now) }
+    ensures cause { HasCause (O.faults out.old) (O.faults out.new) result }
+{
+    let mut batch = Batch::new();
+    batch.put_all(texts, out)?;
+    batch.flush(out)
 }

@@ -4,6 +4,7 @@
 mod batch;
 mod bytes;
 mod devices;
+mod digits;
 mod line_reader;
 mod lines;
 mod memory;
@@ -12,12 +13,13 @@ mod read;
 mod text;
 mod write;
 
-pub use batch::Batch;
+pub use batch::{Batch, write_all};
 pub use devices::{Failed, Shelf, Sink, Source};
+pub use digits::Digits;
 pub use line_reader::{Got, LineReader};
 pub use lines::{LineAt, line_at, without_cr};
 pub use memory::{MemShelf, MemSink, MemSource};
 pub use quoted::{MAX_LABEL_BYTES, in_quotes, quoted_at, unquoted};
-pub use read::{READ_LIMIT, ReadError, read_all};
+pub use read::{Intake, READ_LIMIT, ReadError, read_all, read_into};
 pub use text::{number, token_at, trim, trim_start};
 pub use write::{write_number, write_whole};

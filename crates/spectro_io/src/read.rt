@@ -1,8 +1,8 @@
-ghost use Rattle.std.specs.Prelude.{◌≡◌, ◌≤◌, take, IfOk, IfSome, OnOk, OnErr, IsErrOf};
+ghost use Rattle.std.specs.Prelude.{◌≡◌, ◌≤◌, ℕ, List, ◌++◌, take, IfOk, IfSome, OnOk, OnErr, IsErrOf};
 ghost use Rattle.spectro_io.specs.declared.read.ReadError.TheVariants.{Failed as FailedError, OutOfMemory};
 ghost use Rattle.spectro_io.specs.Faults.{Rose};
 ghost use Rattle.spectro_io.specs.Limits.{read_limit};
-ghost use Rattle.spectro_io.specs.Reads.{ReadsAll, TakesFront};
+ghost use Rattle.spectro_io.specs.Reads.{ReadsAll, ReadsInto, TakesFront};
 
 use crate::{Failed, Source};
 use std::alloc::{AllocError, Global};
@@ -36,9 +36,29 @@ impl From<AllocError> for ReadError {
     }
 }
 
+/// What bytes are read into, piece by piece.
+pub trait Intake {
+    // It has taken these bytes.
+    ghost has_taken: { Self → List ℕ → Type 0 };
+
+    /// Takes the next bytes.
+    fn take(&mut self, piece: &[u8]) -> Result<(), AllocError>
+        ensures { OnOk result ((taken : List ℕ) → has_taken self.old taken → has_taken self.new (taken ++ piece.now)) };
+}
+
+impl Intake for Vec<u8> {
+    ghost has_taken = { λ bytes taken. bytes.items ≡ taken };
+
+    fn take(&mut self, piece: &[u8]) -> Result<(), AllocError> {
+        self.extend_from_slice(piece)
+    }
+}
+
+/// Reads to the end, or as many bytes as the limit allows, into what takes them. At most 65,536 bytes are lent to
+/// a read.
 #[tactic(auto, unfolding(crate::specs::Limits::read_limit))]
-fn read_to_limit<S: Source>(alloc: Global, source: &mut S) -> Result<Vec<u8>, ReadError>
-    ensures all { IfOk result (λ bytes. ReadsAll (S.left source.old) (S.left source.new) bytes.items) }
+pub fn read_into<S: Source, I: Intake>(source: &mut S, intake: &mut I) -> Result<(), ReadError>
+    ensures all { OnOk result (ReadsInto I.has_taken (S.left source.old) (S.left source.new) intake.old intake.new) }
     ensures err { OnErr result (TakesFront (S.left source.old) (S.left source.new)) }
     ensures texts { S.texts source.new ≡ S.texts source.old }
     ensures cause { IsErrOf result ReadError.Failed → Rose (S.faults source.old) (S.faults source.new) }
@@ -46,17 +66,18 @@ fn read_to_limit<S: Source>(alloc: Global, source: &mut S) -> Result<Vec<u8>, Re
     ensures kept { OnOk result (S.faults source.new ≡ S.faults source.old) }
     ensures memory { IsErrOf result ReadError.OutOfMemory → S.faults source.new ≡ S.faults source.old }
 {
-    let mut bytes = Vec::new(alloc);
     let mut piece = [0u8; PIECE];
-    'reading: while bytes.len() < READ_LIMIT {
-        let room = PIECE.min(READ_LIMIT - bytes.len());
+    let mut taken = 0;
+    'reading: while taken < READ_LIMIT {
+        let room = PIECE.min(READ_LIMIT - taken);
         let count = source.read(&mut piece[..room])?;
         if count == 0 {
             break;
         }
-        bytes.extend_from_slice(&piece[..count])?;
+        intake.take(&piece[..count])?;
+        taken += count;
     }
-    Ok(bytes)
+    Ok(())
 }
 
 /// Reads to the end, or as many bytes as the limit allows, and answers them. At most 65,536 bytes are lent to
@@ -71,5 +92,7 @@ pub fn read_all<S: Source>(alloc: Global, source: &mut S) -> Result<Vec<u8>, Rea
     ensures kept { OnOk result (S.faults source.new ≡ S.faults source.old) }
     ensures memory { IsErrOf result ReadError.OutOfMemory → S.faults source.new ≡ S.faults source.old }
 {
-    read_to_limit(alloc, source)
+    let mut bytes = Vec::new(alloc);
+    read_into(source, &mut bytes)?;
+    Ok(bytes)
 }

@@ -7,7 +7,7 @@ ghost use Rattle.spectro_io.specs.Faults.{HasCause};
 ghost use Rattle.spectro_notation.specs.Prices.{next_text, price_text};
 
 use spectro_energy::{Energy, Parts};
-use spectro_io::{Batch, Failed, Sink};
+use spectro_io::{Batch, Digits, Failed, Sink};
 
 /// Puts the parts of the price in decimal, with one space between them, behind the bytes that are held. Nothing is
 /// held after it failed.
@@ -36,7 +36,7 @@ fn put_numbers<O: Sink>(numbers: &[u32], batch: &mut Batch, out: &mut O) -> Resu
     let [first, others @ ..] = numbers else {
         return Ok(());
     };
-    batch.put_number(u64::from(*first), out)?;
+    batch.put(digits(*first).as_bytes(), out)?;
     for number in others {
         put_next(*number, batch, out)?;
     }
@@ -49,6 +49,11 @@ fn put_next<O: Sink>(number: u32, batch: &mut Batch, out: &mut O) -> Result<(), 
     ensures held { OnErr result (batch.new ≡ []) }
     ensures cause { HasCause (O.faults out.old) (O.faults out.new) result }
 {
-    batch.put(b" ", out)?;
-    batch.put_number(u64::from(number), out)
+    batch.put_all(&[b" ", digits(number).as_bytes()], out)
+}
+
+fn digits(number: u32) -> Digits
+    ensures { result ≡ decimal number }
+{
+    Digits::of(u64::from(number))
 }

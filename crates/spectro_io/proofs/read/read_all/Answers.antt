@@ -1,5 +1,14 @@
-use Rattle.spectro_io.proofs.ReadFront.{left_of_call}
+-- Nothing was taken before, so that the bytes are just those that were read.
+use Rattle.spectro_io.proofs.ReadFront.{left_read}
+use Rattle.spectro_io.specs.Limits.{read_limit}
 use Rattle.spectro_io.proofs.read.read_all.Goals as goal
 
+pub returns-clause-all : goal.returns-clause-all
+returns-clause-all g c =
+    let into = c.in_ok-read_into.ensures.all in
+    rw (into.taken _ c.new-bytes.ensures.items) into.read
+
 pub returns-clause-bytes : goal.returns-clause-bytes
-returns-clause-bytes g c = left_of_call c.read_to_limit.result (g.S.Source.left c.args.source.now) _ c.read_to_limit.ensures.all
+returns-clause-bytes g c =
+    let into = c.in_ok-read_into.ensures.all in
+    rw (into.taken _ c.new-bytes.ensures.items) (left_read read_limit _ _ into.bytes into.read.front into.read.within into.read.end)

@@ -15,10 +15,10 @@ pub returns-in_err-put_next-clause-bytes : goal.returns-in_err-put_next-clause-b
 returns-in_err-put_next-clause-bytes g c =
     let p = err_from_is_err_and c.from_residual-in_err-put_next.result c.from_residual-in_err-put_next.ensures.1 in
     let others = take (length c.args.numbers.now - 1) (drop 1 c.args.numbers.now) in
-    let first = rw c.from.ensures at c.in_ok-put_number.ensures.bytes in
-    let part : AppendsPart (g.O.Sink.written c.put_number.new.out) (g.O.Sink.written c.put_next.new.out) (c.put_number.new.self ++ flat_map next_text others) =
+    let first = rw (c.as_bytes.ensures ∙ c.digits.ensures) at c.in_ok-put.ensures.bytes in
+    let part : AppendsPart (g.O.Sink.written c.put.new.out) (g.O.Sink.written c.put_next.new.out) (c.put.new.self ++ flat_map next_text others) =
     puts-stopped _ _ _ _ _ _ _ _
-    (row-stopped next_text c.put_number.new.self others c.loop-number.number-index 0
+    (row-stopped next_text c.put.new.self others c.loop-number.number-index 0
     (omega arith)) c.loop-number.invariant.bytes c.in_err-put_next.ensures.bytes in
     let whole = append_assoc c.args.batch.now _ (flat_map next_text others)
     ∙ ap (λ text. c.args.batch.now ++ text) (sym (row-parts c.args.numbers.now c.in-len1-up.len_at_least)) in
@@ -28,7 +28,7 @@ returns-in_err-put_next-clause-bytes g c =
 pub loop-number-preserved : goal.loop-number-preserved
 loop-number-preserved g c = record {
   bytes = subst (IsPending _ _ _)
-      (row-more next_text c.put_number.new.self (take (length c.args.numbers.now - 1) (drop 1 c.args.numbers.now)) c.loop-number.number-index 0
+      (row-more next_text c.put.new.self (take (length c.args.numbers.now - 1) (drop 1 c.args.numbers.now)) c.loop-number.number-index 0
       (omega arith)) (pending-more _ _ _ _ _ _ _ c.loop-number.invariant.bytes c.in_ok-put_next.ensures.bytes);
   faults = c.in_ok-put_next.ensures.cause.kept ∙ c.loop-number.invariant.faults;
 }
@@ -37,7 +37,7 @@ loop-number-preserved g c = record {
 pub returns-clause-bytes : goal.returns-clause-bytes
 returns-clause-bytes g c =
     let others = take (length c.args.numbers.now - 1) (drop 1 c.args.numbers.now) in
-    let first = rw c.from.ensures at c.in_ok-put_number.ensures.bytes in
+    let first = rw (c.as_bytes.ensures ∙ c.digits.ensures) at c.in_ok-put.ensures.bytes in
     let all : take c.loop-number.number-index others ≡ others = take_all c.loop-number.number-index others (omega (arith, c.loop-number-test.false)) in
     let whole = append_assoc c.args.batch.now _ (flat_map next_text others)
     ∙ ap (λ text. c.args.batch.now ++ text) (sym (row-parts c.args.numbers.now c.in-len1-up.len_at_least)) in
