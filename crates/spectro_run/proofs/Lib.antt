@@ -10,4 +10,3 @@ pub mod Sized
 pub mod Stopping
 pub mod StagesOfTexts
 pub mod Taken
-pub mod WrittenPieces

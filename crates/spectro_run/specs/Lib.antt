@@ -1,4 +1,3 @@
-pub mod Feeds
 pub mod Stages
 pub mod Held
 pub mod Refusals
@@ -10,5 +9,4 @@ pub mod Stops
 pub mod Measures
 pub mod Reading
 pub mod Codes
-pub mod Pieces
 pub mod Messages

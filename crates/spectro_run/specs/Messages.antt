@@ -38,9 +38,17 @@ counts_text (kinds.Aut kind) = aut.counts_text kind
 counts_text (kinds.Formula kind) = []
 counts_text (kinds.Weights kind) = []
 
+-- the text of this name, and the place in it
+abbrev pub place_text : List ℕ → ℕ → List ℕ
+place_text name at = codes "spectro: " ++ name ++ codes ":" ++ decimal at ++ codes ": "
+
+-- why it was refused there
+abbrev pub kind_text : Kind → List ℕ
+kind_text kind = kind_name kind ++ counts_text kind ++ codes "\n"
+
 -- where a text of this name was refused, and why
 abbrev pub fault_text : List ℕ → declared.BadText → List ℕ
-fault_text name fault = codes "spectro: " ++ name ++ codes ":" ++ decimal fault.at ++ codes ": " ++ kind_name fault.kind ++ counts_text fault.kind ++ codes "\n"
+fault_text name fault = place_text name fault.at ++ kind_text fault.kind
 
 -- what is told of how a command ended: nothing where it was done or its answer is no
 abbrev pub command_message : Option Command → Status → List ℕ

@@ -1,9 +1,8 @@
 -- What is read of a file.
-use Rattle.std.specs.Prelude.{ℕ, ◌≡◌, ◌⊎◌, List, take, drop, Option, None, Some, IfSome}
+use Rattle.std.specs.Prelude.{ℕ, ◌≡◌, ◌⊎◌, List, ◌++◌, take, drop, Option, None, Some, IfSome}
 use Rattle.spectro_io.specs.Faults.{Rose}
 use Rattle.spectro_io.specs.Limits.{read_limit}
 use Rattle.spectro_io.specs.Shelves.{Texts}
-use Rattle.spectro_aut.specs.Feeding.{Fed, HasTaken}
 use Rattle.spectro_words.specs.Words.{Word}
 use Rattle.spectro_words.specs.Commands.{Command}
 use Rattle.spectro_run.specs.Held.{file_of}
@@ -20,10 +19,10 @@ HoldsNothing (Some texts) name = texts name ≡ None
 abbrev pub HasRead : Word → List ℕ → Texts → Type 0
 HasRead name bytes texts = (text : List ℕ) × (texts name ≡ Some text) × (bytes ≡ take read_limit text)
 
--- the feed has taken what was read: the text that the name holds, where the shelf tells it
-pub record HasTakenText (told : Option Texts) (name : Word) (feed : Fed) : Type 0 where
+-- what was read went into what takes it: the text that the name holds, where the shelf tells it
+pub record TakesText (told : Option Texts) (name : Word) {Intake : Type 0} (has_taken : Intake → List ℕ → Type 0) (before now : Intake) : Type 0 where
   pub bytes : List ℕ
-  pub taken : HasTaken feed bytes
+  pub taken : (taken : List ℕ) → has_taken before taken → has_taken now (taken ++ bytes)
   pub read : IfSome told (HasRead name bytes)
 
 -- a text was not read, since the shelf failed or the name holds nothing

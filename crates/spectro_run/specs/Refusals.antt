@@ -45,9 +45,13 @@ abbrev pub Holds : {T : Type 0} → (List ℕ → T → Type 0) → Option (List
 Holds IsTextOf None value = ⊥
 Holds IsTextOf (Some text) value = IsTextOf text value
 
+-- the value of which a file holds a text
+abbrev pub of_file : {T : Type 0} → (List ℕ → T → Type 0) → (List ℕ → Status → Type 0) → Option (List ℕ) → Stage T
+of_file IsTextOf Refuses held = record { Refuses = RefusesHeld Refuses held; Gives = Holds IsTextOf held }
+
 -- the system of a file
 abbrev pub system_of : Which → Option (List ℕ) → Stage System
-system_of which held = record { Refuses = RefusesHeld (RefusesSystem which) held; Gives = Holds IsText held }
+system_of which = of_file IsText (RefusesSystem which)
 
 -- the formula of a word
 abbrev pub formula_of : Word → Stage spec.Formula
@@ -56,4 +60,4 @@ formula_of word = record { Refuses = RefusesFormula word; Gives = IsFormulaText 
 -- the weights of a file, if one is asked for; else every label weighs 1
 abbrev pub weighing_of : Option Word → Option (List ℕ) → Stage Weighing
 weighing_of None held = record { Refuses = λ status. ⊥; Gives = λ weighing. weighing ≡ [] }
-weighing_of (Some name) held = record { Refuses = RefusesHeld RefusesWeighing held; Gives = Holds IsWeightText held }
+weighing_of (Some name) held = of_file IsWeightText RefusesWeighing held

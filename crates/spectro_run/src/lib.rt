@@ -10,7 +10,6 @@ mod cost;
 mod message;
 mod outcomes;
 mod output;
-mod pieces;
 mod runner;
 mod status;
 mod texts;

@@ -1,16 +1,16 @@
-ghost use Rattle.std.specs.Prelude.{◌≡◌};
+ghost use Rattle.std.specs.Prelude.{◌≡◌, ◌++◌};
 ghost use Rattle.std.specs.Option.{option_map};
+ghost use Rattle.spectro_io.specs.Batches.{Puts};
 ghost use Rattle.spectro_io.specs.Bytes.{WritesWhole};
 ghost use Rattle.spectro_io.specs.Faults.{HasCause};
 ghost use Rattle.spectro_words.specs.Asked.{asked};
 ghost use Rattle.spectro_words.specs.Words.{named};
 ghost use Rattle.spectro_run.specs.Held.{file_of};
-ghost use Rattle.spectro_run.specs.Messages.{IsUntold, command_message, fault_text, text_name};
+ghost use Rattle.spectro_run.specs.Messages.{IsUntold, command_message, fault_text, kind_text, place_text, text_name};
 
-use crate::pieces::{Piece, write_pieces};
 use crate::status::{BadText, Kind, Status, Which};
 use spectro_aut::AutKind;
-use spectro_io::{Failed, Sink, write_whole};
+use spectro_io::{Batch, Digits, Failed, Sink, write_all, write_whole};
 use spectro_words::Command;
 
 // The name of this file of the command, if it has one.
@@ -45,35 +45,44 @@ fn write_fault<E: Sink>(name: &str, fault: BadText, err: &mut E) -> Result<(), F
     ensures bytes { WritesWhole (E.written err.old) (E.written err.new) result (fault_text name.now fault) }
     ensures cause { HasCause (E.faults err.old) (E.faults err.new) result }
 {
-    match fault.kind {
-        Kind::Aut(AutKind::MissingLines { said, found }) => write_pieces(
-            &[
-                Piece::Text("spectro: "),
-                Piece::Text(name),
-                Piece::Text(":"),
-                Piece::Number(fault.at),
-                Piece::Text(": "),
-                Piece::Text(fault.kind.name()),
-                Piece::Text(" said "),
-                Piece::Number(u64::from(said)),
-                Piece::Text(" found "),
-                Piece::Number(u64::from(found)),
-                Piece::Text("\n"),
-            ],
-            err,
-        ),
-        _ => write_pieces(
-            &[
-                Piece::Text("spectro: "),
-                Piece::Text(name),
-                Piece::Text(":"),
-                Piece::Number(fault.at),
-                Piece::Text(": "),
-                Piece::Text(fault.kind.name()),
-                Piece::Text("\n"),
-            ],
-            err,
-        ),
+    let mut batch = Batch::new();
+    put_place(name, fault.at, &mut batch, err)?;
+    put_kind(fault.kind, &mut batch, err)?;
+    batch.flush(err)
+}
+
+fn put_place<E: Sink>(name: &str, at: u64, batch: &mut Batch, err: &mut E) -> Result<(), Failed>
+    ensures bytes { Puts (E.written err.old) (E.written err.new) result batch.new (batch.old ++ place_text name.now at) }
+    ensures cause { HasCause (E.faults err.old) (E.faults err.new) result }
+{
+    let at = Digits::of(at);
+    batch.put_all(
+        &[b"spectro: ", name.as_bytes(), b":", at.as_bytes(), b": "],
+        err,
+    )
+}
+
+fn put_kind<E: Sink>(kind: Kind, batch: &mut Batch, err: &mut E) -> Result<(), Failed>
+    ensures bytes { Puts (E.written err.old) (E.written err.new) result batch.new (batch.old ++ kind_text kind) }
+    ensures cause { HasCause (E.faults err.old) (E.faults err.new) result }
+{
+    match kind {
+        Kind::Aut(AutKind::MissingLines { said, found }) => {
+            let said = Digits::of(u64::from(said));
+            let found = Digits::of(u64::from(found));
+            batch.put_all(
+                &[
+                    kind.name().as_bytes(),
+                    b" said ",
+                    said.as_bytes(),
+                    b" found ",
+                    found.as_bytes(),
+                    b"\n",
+                ],
+                err,
+            )
+        }
+        _ => batch.put_all(&[kind.name().as_bytes(), b"\n"], err),
     }
 }
 
@@ -91,11 +100,11 @@ pub fn write_message<E: Sink>(
         Status::Done | Status::No => Ok(()),
         Status::Usage => write_whole(err, b"spectro: words not understood\n"),
         Status::BadText(fault) => write_fault(text_name(fault.which, command), fault, err),
-        Status::TooLarge { limit } => write_pieces(
+        Status::TooLarge { limit } => write_all(
             &[
-                Piece::Text("spectro: more than "),
-                Piece::Number(u64::from(limit)),
-                Piece::Text(" positions\n"),
+                b"spectro: more than ",
+                Digits::of(u64::from(limit)).as_bytes(),
+                b" positions\n",
             ],
             err,
         ),

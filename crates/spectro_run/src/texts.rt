@@ -8,50 +8,22 @@ ghost use Rattle.spectro_aut.specs.Texts.{IsText};
 ghost use Rattle.spectro_hmltext.specs.Parsing.{IsParsed};
 ghost use Rattle.spectro_weights.specs.WeightTexts.{IsWeightText};
 ghost use Rattle.spectro_words.specs.Words.{named};
-ghost use Rattle.spectro_run.specs.Feeds.{TakesAll};
-ghost use Rattle.spectro_run.specs.Reading.{HasRead, HasTakenText, LeavesRest, OrMemory, IsUnread, ReadsToEnd};
+ghost use Rattle.spectro_run.specs.Reading.{IsUnread, LeavesRest, OrMemory, ReadsToEnd, TakesText};
 ghost use Rattle.spectro_run.specs.Refusals.{RefusesSystem, RefusesWeighing, formula_of, system_of, weighing_of};
 ghost use Rattle.spectro_run.specs.Stops.{Counts, Stops, TakesStage};
 
 use crate::status::{BadText, Kind, Status, Which};
 use spectro_aut::{AutError, Feed};
 use spectro_hmltext::{ParseError, Parsed, parse};
-use spectro_io::{READ_LIMIT, ReadError, Shelf, Source, read_all};
+use spectro_io::{Intake, Shelf, read_into};
 use spectro_lts::Lts;
 use spectro_weights::{WeightError, Weights, read_weights};
 use std::alloc::Global;
 
-// Bytes that are lent to one read.
-const PIECE: usize = 65_536;
-
-// Takes what is left of the source, or as much of it as is read of a text.
-fn take_all<S: Source>(alloc: Global, source: &mut S) -> Result<Feed, ReadError>
-    ensures all { IfOk result (TakesAll (S.left source.old) (S.left source.new)) }
-    ensures texts { S.texts source.new ≡ S.texts source.old }
-    ensures cause { IsErrOf result ReadError.Failed → Rose (S.faults source.old) (S.faults source.new) }
-    ensures later { S.faults source.old ≤ S.faults source.new }
-    ensures kept { OnOk result (S.faults source.new ≡ S.faults source.old) }
-    ensures memory { IsErrOf result ReadError.OutOfMemory → S.faults source.new ≡ S.faults source.old }
-{
-    let mut feed = Feed::new(alloc)?;
-    let mut piece = [0u8; PIECE];
-    let mut taken = 0;
-    'reading: while taken < READ_LIMIT {
-        let room = PIECE.min(READ_LIMIT - taken);
-        let count = source.read(&mut piece[..room])?;
-        if count == 0 {
-            break;
-        }
-        feed.feed(&piece[..count])?;
-        taken += count;
-    }
-    Ok(feed)
-}
-
-// A feed that has taken the text that the name holds, or as much of it as is read.
-fn take_text<H: Shelf>(alloc: Global, name: &str, shelf: &mut H) -> Result<Feed, Status>
-    ensures text { IfOk result (HasTakenText (H.texts shelf.old) name.now) }
-    ensures rest { IfOk result (λ _. LeavesRest (H.texts shelf.old) (Some name.now) (H.left shelf.new)) }
+// Takes the text that the name holds, or as much of it as is read.
+fn take_text<H: Shelf, I: Intake>(name: &str, intake: &mut I, shelf: &mut H) -> Result<(), Status>
+    ensures text { OnOk result (TakesText (H.texts shelf.old) name.now I.has_taken intake.old intake.new) }
+    ensures rest { OnOk result (LeavesRest (H.texts shelf.old) (Some name.now) (H.left shelf.new)) }
     ensures cause { IfErr result (OrMemory (IsUnread (H.texts shelf.old) name.now (H.faults shelf.old) (H.faults shelf.new))) }
     ensures texts { H.texts shelf.new ≡ H.texts shelf.old }
     ensures counts { Counts (H.faults shelf.old) (H.faults shelf.new) result }
@@ -59,7 +31,7 @@ fn take_text<H: Shelf>(alloc: Global, name: &str, shelf: &mut H) -> Result<Feed,
     let Ok(true) = shelf.open(name) else {
         return Err(Status::ReadFault);
     };
-    Ok(take_all(alloc, shelf)?)
+    Ok(read_into(shelf, intake)?)
 }
 
 // The system of the text that was taken.
@@ -91,10 +63,9 @@ pub fn take_system<H: Shelf>(
     ensures counts { Counts (H.faults shelf.old) (H.faults shelf.new) result }
     ensures texts { H.texts shelf.new ≡ H.texts shelf.old }
 {
-    match take_text(alloc, name, shelf) {
-        Ok(feed) => read_system(feed, which),
-        Err(status) => Err(status),
-    }
+    let mut feed = Feed::new(alloc)?;
+    take_text(name, &mut feed, shelf)?;
+    read_system(feed, which)
 }
 
 /// The sheet of the formula of which the word is a text.
@@ -111,20 +82,6 @@ pub fn read_formula(alloc: Global, text: &str) -> Result<Parsed, Status>
         })),
         Err(ParseError::OutOfMemory) => Err(Status::OutOfMemory),
     }
-}
-
-// The text that the name holds, or as much of it as is read.
-fn take_bytes<H: Shelf>(alloc: Global, name: &str, shelf: &mut H) -> Result<Vec<u8>, Status>
-    ensures text { IfOk result (λ bytes. IfSome (H.texts shelf.old) (HasRead name.now bytes.items)) }
-    ensures rest { IfOk result (λ _. LeavesRest (H.texts shelf.old) (Some name.now) (H.left shelf.new)) }
-    ensures cause { IfErr result (OrMemory (IsUnread (H.texts shelf.old) name.now (H.faults shelf.old) (H.faults shelf.new))) }
-    ensures texts { H.texts shelf.new ≡ H.texts shelf.old }
-    ensures counts { Counts (H.faults shelf.old) (H.faults shelf.new) result }
-{
-    let Ok(true) = shelf.open(name) else {
-        return Err(Status::ReadFault);
-    };
-    Ok(read_all(alloc, shelf)?)
 }
 
 // The weights of the text.
@@ -158,8 +115,7 @@ pub fn take_weights<H: Shelf>(
     let Some(name) = name else {
         return Ok(Weights::new(alloc));
     };
-    match take_bytes(alloc, name, shelf) {
-        Ok(bytes) => read_weighing(alloc, &bytes),
-        Err(status) => Err(status),
-    }
+    let mut bytes = Vec::new(alloc);
+    take_text(name, &mut bytes, shelf)?;
+    read_weighing(alloc, &bytes)
 }

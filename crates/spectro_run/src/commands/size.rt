@@ -8,11 +8,10 @@ ghost use Rattle.spectro_run.specs.Stops.{Counts, IsPrepared, Stops};
 ghost use Rattle.spectro_words.specs.Commands as words;
 ghost use Rattle.spectro_words.specs.Limits.{IsLimit};
 
-use crate::pieces::{Piece, write_pieces};
 use crate::status::{Status, Which};
 use crate::texts::take_system;
 use crate::written::Written;
-use spectro_io::{Failed, Shelf, Sink};
+use spectro_io::{Digits, Failed, Shelf, Sink, write_all};
 use spectro_lts::Lts;
 use spectro_pairs::{ExploreError, explore};
 use spectro_weights::Weights;
@@ -29,13 +28,15 @@ impl Written for Extent {
     ghost text = { λ extent. size_line extent.pairs extent.positions };
 
     fn write<O: Sink>(&self, out: &mut O) -> Result<(), Failed> {
-        write_pieces(
+        let pairs = Digits::of(u64::from(self.pairs));
+        let positions = Digits::of(u64::from(self.positions));
+        write_all(
             &[
-                Piece::Text("pairs "),
-                Piece::Number(u64::from(self.pairs)),
-                Piece::Text(", positions "),
-                Piece::Number(u64::from(self.positions)),
-                Piece::Text("\n"),
+                b"pairs ",
+                pairs.as_bytes(),
+                b", positions ",
+                positions.as_bytes(),
+                b"\n",
             ],
             out,
         )

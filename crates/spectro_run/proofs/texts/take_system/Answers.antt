@@ -1,25 +1,40 @@
-use Rattle.std.proofs.lemmas.Result.{IfOk-weaker}
+-- The feed took what was read of the text, and nothing before it.
+use Rattle.std.proofs.Common.{[], inl}
+use Rattle.std.proofs.lemmas.Result.{IfErr-weaker, IfOk-weaker, err_from_is_err_and}
+use Rattle.spectro_aut.specs.Texts.{IsText}
 use Rattle.spectro_aut.proofs.KeptLimits.{text_keeps_limits}
-use Rattle.spectro_run.specs.Refusals.{system_of}
-use Rattle.spectro_run.proofs.StagesOfTexts.{system-read, system-stage, unread-stage}
-use Rattle.spectro_run.proofs.Stopping.{counts-same}
+use Rattle.spectro_run.specs.Refusals.{RefusesSystem}
+use Rattle.spectro_run.proofs.StagesOfTexts.{read-stage, read-whole, systems-judged, unread-stage}
 use Rattle.spectro_run.proofs.texts.take_system.Goals as goal
 
-pub returns-in-Ok-clause-stage : goal.returns-in-Ok-clause-stage
-returns-in-Ok-clause-stage g c = system-stage _ _ _ _ _ c.in-Ok.feed c.read_system.result c.in-Ok.ensures.text c.read_system.ensures.ok
-    c.read_system.ensures.refused
+pub returns-in_err-feed-clause-stage : goal.returns-in_err-feed-clause-stage
+returns-in_err-feed-clause-stage g c =
+    let p = err_from_is_err_and c.from_residual.result c.from_residual.ensures.1 in
+    rw p.1 (unread-stage _ c.args.name.now IsText (RefusesSystem c.args.which) _ _ _ (inl p.2))
 
-pub returns-in-Ok-clause-limits : goal.returns-in-Ok-clause-limits
-returns-in-Ok-clause-limits g c =
-    let held = c.in-Ok.ensures.text in
-    IfOk-weaker c.read_system.result _ _ (λ lts is. text_keeps_limits held.bytes lts (is held.bytes held.taken)) c.read_system.ensures.ok
+pub returns-in_err-take_text-clause-stage : goal.returns-in_err-take_text-clause-stage
+returns-in_err-take_text-clause-stage g c =
+    let p = err_from_is_err_and c.from_residual-in_err-take_text.result c.from_residual-in_err-take_text.ensures.1 in
+    rw (p.1, p.2) (unread-stage _ c.args.name.now IsText (RefusesSystem c.args.which) _ _ _ c.in_err-take_text.ensures.cause)
 
-pub returns-in-Ok-clause-counts : goal.returns-in-Ok-clause-counts
-returns-in-Ok-clause-counts g c = counts-same _ _ c.read_system.result c.in-Ok.ensures.counts.kept
+pub returns-clause-stage : goal.returns-clause-stage
+returns-clause-stage g c =
+    let text = c.in_ok-take_text.ensures.text in
+    let taken = text.taken [] c.in_ok-feed.ensures in
+    read-stage _ c.args.name.now IsText (RefusesSystem c.args.which) _ _ c.args.which (systems-judged c.args.which) text.bytes c.read_system.result text.read
+    (IfOk-weaker c.read_system.result _ _ (λ lts is. is text.bytes taken) c.read_system.ensures.ok)
+    (IfErr-weaker c.read_system.result _ _ (λ status is. is text.bytes taken) c.read_system.ensures.refused)
 
-pub returns-in-Err-clause-stage : goal.returns-in-Err-clause-stage
-returns-in-Err-clause-stage g c = unread-stage _ _ _ _ (system_of c.args.which) (λ status is. is) _ c.in-Err.ensures.cause
+pub returns-clause-whole : goal.returns-clause-whole
+returns-clause-whole g c =
+    let text = c.in_ok-take_text.ensures.text in
+    let taken = text.taken [] c.in_ok-feed.ensures in
+    read-whole IsText (RefusesSystem c.args.which) c.args.which (systems-judged c.args.which) (g.H.Source.texts c.args.shelf.now) c.args.name.now text.bytes
+    (g.H.Source.left c.take_text.new.shelf) c.read_system.result c.in_ok-take_text.ensures.rest
+    (IfErr-weaker c.read_system.result _ _ (λ status is. is text.bytes taken) c.read_system.ensures.refused)
 
-pub returns-in-Ok-clause-whole : goal.returns-in-Ok-clause-whole
-returns-in-Ok-clause-whole g c = system-read _ _ _ _ c.in-Ok.feed c.read_system.result c.in-Ok.ensures.text c.in-Ok.ensures.rest
-    c.read_system.ensures.refused
+pub returns-clause-limits : goal.returns-clause-limits
+returns-clause-limits g c =
+    let text = c.in_ok-take_text.ensures.text in
+    let taken = text.taken [] c.in_ok-feed.ensures in
+    IfOk-weaker c.read_system.result _ _ (λ lts is. text_keeps_limits text.bytes lts (is text.bytes taken)) c.read_system.ensures.ok

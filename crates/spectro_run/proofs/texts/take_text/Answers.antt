@@ -1,3 +1,4 @@
+-- What was read is what the name holds, since the shelf has opened it.
 use Rattle.std.proofs.Common.{subst}
 use Rattle.spectro_io.specs.Shelves.{Opens}
 use Rattle.spectro_run.proofs.Taken.{text_taken}
@@ -5,6 +6,7 @@ use Rattle.spectro_run.proofs.texts.take_text.Goals as goal
 
 pub returns-clause-text : goal.returns-clause-text
 returns-clause-text g c =
-    text_taken (g.H.Source.texts c.args.shelf.now) c.args.name.now (g.H.Source.left c.open.new.self) (g.H.Source.left c.take_all.new.source) c.in_ok-take_all.field-0
+    text_taken g.I.Intake.has_taken (g.H.Source.texts c.args.shelf.now) c.args.name.now (g.H.Source.left c.open.new.self)
+    (g.H.Source.left c.read_into.new.source) c.args.intake.now c.read_into.new.intake
     (subst (λ found. Opens (g.H.Source.texts c.args.shelf.now) c.args.name.now found (g.H.Source.left c.open.new.self)) c.in-Ok-true.field-0-test
-    c.in-Ok-true.ensures.opened) c.in_ok-take_all.ensures.all
+    c.in-Ok-true.ensures.opened) c.in_ok-read_into.ensures.all

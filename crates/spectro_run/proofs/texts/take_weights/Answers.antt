@@ -1,16 +1,20 @@
-use Rattle.std.specs.Prelude.{Some}
-use Rattle.spectro_run.specs.Refusals.{weighing_of}
-use Rattle.spectro_run.proofs.StagesOfTexts.{unread-stage, weighing-stage}
-use Rattle.spectro_run.proofs.Stopping.{counts-same}
+-- The bytes are what was read of the text.
+use Rattle.std.proofs.Common.{◌∙◌}
+use Rattle.std.proofs.lemmas.Result.{err_from_is_err_and}
+use Rattle.spectro_weights.specs.WeightTexts.{IsWeightText}
+use Rattle.spectro_run.specs.Refusals.{RefusesWeighing}
+use Rattle.spectro_run.specs.declared.status.Which.TheVariants.{Weights}
+use Rattle.spectro_run.proofs.StagesOfTexts.{read-stage, unread-stage, weighings-judged}
 use Rattle.spectro_run.proofs.texts.take_weights.Goals as goal
 
-pub returns-in-Ok-clause-stage : goal.returns-in-Ok-clause-stage
-returns-in-Ok-clause-stage g c =
-    rw c.in-Some.is (weighing-stage _ _ _ _ _ c.read_weighing.result c.in-Ok.ensures.text (rw c.deref.ensures.value at c.read_weighing.ensures.ok)
-    (rw c.deref.ensures.value at c.read_weighing.ensures.refused))
+pub returns-in_err-take_text-clause-stage : goal.returns-in_err-take_text-clause-stage
+returns-in_err-take_text-clause-stage g c =
+    let p = err_from_is_err_and c.from_residual.result c.from_residual.ensures.1 in
+    rw (p.1, p.2, c.in-Some.is) (unread-stage _ c.in-Some.name.now IsWeightText RefusesWeighing _ _ _ c.in_err-take_text.ensures.cause)
 
-pub returns-in-Ok-clause-counts : goal.returns-in-Ok-clause-counts
-returns-in-Ok-clause-counts g c = counts-same _ _ c.read_weighing.result c.in-Ok.ensures.counts.kept
-
-pub returns-in-Err-clause-stage : goal.returns-in-Err-clause-stage
-returns-in-Err-clause-stage g c = rw c.in-Some.is (unread-stage _ _ _ _ (weighing_of (Some c.in-Some.name.now)) (λ status is. is) _ c.in-Err.ensures.cause)
+pub returns-clause-stage : goal.returns-clause-stage
+returns-clause-stage g c =
+    let text = c.in_ok-take_text.ensures.text in
+    let same = c.deref.ensures.value ∙ text.taken _ c.new-bytes.ensures.items in
+    rw c.in-Some.is (read-stage _ c.in-Some.name.now IsWeightText RefusesWeighing _ _ Weights weighings-judged text.bytes c.read_weighing.result text.read
+    (rw same at c.read_weighing.ensures.ok) (rw same at c.read_weighing.ensures.refused))
