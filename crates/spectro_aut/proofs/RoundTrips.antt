@@ -18,9 +18,10 @@ use Rattle.spectro_lines.specs.Texts.{Before, nothing_before, behind, given, Fol
 use Rattle.spectro_lines.proofs.LineJudgements.{taken-IsRead}
 use Rattle.spectro_lines.proofs.HeldLines.{lines_of-ended, first_line-ended}
 use Rattle.spectro_aut.proofs.WrittenLines.{IsPlain, header_line, header_text_line, IsHeader-header_line, IsPlain-header_line, step_line, step_text_line, IsStepLine-step_line, IsPlain-step_line}
+use Rattle.spectro_io.specs.declared.read.TheConstants.{TEXT_LIMIT}
 
 -- a line that is read as it stands, and the lines behind it
-follow_plain : (line rest : List ℕ) (before after : Before Reading) (next : Reading) → IsPlain line → before.bytes + (length line + 1) ≤ 67108864
+follow_plain : (line rest : List ℕ) (before after : Before Reading) (next : Reading) → IsPlain line → before.bytes + (length line + 1) ≤ TEXT_LIMIT
     → Gives before.state line next
     → Follow aut_form (behind before (line ++ 10 ∷ []) next) (lines_of rest) after → Follow aut_form before (lines_of (line ++ 10 ∷ rest)) after
 follow_plain line rest before after next plain room gives others =
@@ -78,7 +79,7 @@ module _ (system : System) (limits : KeepsLimits system) where
 
   steps_follow : (done rest : List Step) (before : Before Reading) → system.steps ≡ done ++ rest → All (IsWritable system.states) rest
       → before.state ≡ steps (length system.steps) (draft system done)
-      → before.bytes + length (flat_map step_text rest) ≤ 67108864 → StepsFollow before rest
+      → before.bytes + length (flat_map step_text rest) ≤ TEXT_LIMIT → StepsFollow before rest
   steps_follow done [] before whole writable reading room =
       (before, refl, reading ∙ ap (λ all. steps (length system.steps) (draft system all)) (sym (whole ∙ append-nil done)))
   steps_follow done (step ∷ rest) before whole writable reading room =

@@ -11,6 +11,7 @@ use Rattle.spectro_aut.specs.Texts.{aut_form, IsText, IsFirstFault}
 use Rattle.spectro_aut.specs.declared.error.AutFault.{AutFault}
 use Rattle.spectro_aut.specs.declared.error.AutKind.{AutKind}
 use Rattle.spectro_aut.proofs.Judgements.{IsKept, gives-IsKept, line_settled, end_settled}
+use Rattle.spectro_io.specs.declared.read.TheConstants.{TEXT_LIMIT}
 
 aut_laws : AreLaws aut_form
 aut_laws = record {
@@ -45,5 +46,5 @@ module _ (text : List ℕ) where
   pub read_front_no_text : (system : System) → IsText (take read_limit text) system → read_limit ≤ length text → ⊥
   read_front_no_text system = long.front_no_text aut_form read_limit text system long.read_limit-large
 
-  pub length-text : (system : System) → IsText text system → length text ≤ 67108864
+  pub length-text : (system : System) → IsText text system → length text ≤ TEXT_LIMIT
   length-text = long.length-text aut_form text

@@ -1,23 +1,12 @@
 -- The text of a system in the pieces in which it is written.
-use Rattle.std.proofs.Common.{◌≡◌, ◌∙◌, ℕ, ◌+◌, List, ◌++◌, length, take, drop, ap, subst, append_assoc}
-use Rattle.std.specs.Prelude.{slice_get, Some, codes}
-use Rattle.std.specs.Fmt.{decimal}
+use Rattle.std.proofs.Common.{◌≡◌, ◌∙◌, ℕ, ◌+◌, List, ◌++◌, take, drop, ap, subst}
+use Rattle.std.specs.Prelude.{slice_get, Some}
 use Rattle.std.specs.List.{flat_map}
 use Rattle.std.proofs.lemmas.Option.{slice_get_within, get_or_from_slice_get}
-use Rattle.spectro_spec.specs.System.{Label, Step, System}
+use Rattle.spectro_spec.specs.System.{Label, Step}
 use Rattle.spectro_io.proofs.Rows.{row-more, row-stopped}
 use Rattle.spectro_lts.specs.Labels.{labels_of, IsStepAt}
-use Rattle.spectro_aut.specs.Written.{header_text, step_text}
-
--- the header behind what is held, in the pieces in which it is put
-pub header-pieces : (held : List ℕ) (system : System) → held ++ header_text system ≡ (((held ++ (codes "des (" ++ decimal system.initial)) ++ (codes ", " ++ decimal (length system.steps))) ++ (codes ", " ++ decimal system.states)) ++ codes ")\n"
-header-pieces held system = simp append_assoc
-
--- the text of a step behind what is held, in the pieces in which it is put
-pub step-pieces : (held : List ℕ) (step : Step)
-    → held ++ step_text step ≡
-    ((((held ++ (codes "(" ++ decimal step.source)) ++ codes ", \"") ++ step.label) ++ (codes "\", " ++ decimal step.target)) ++ codes ")\n"
-step-pieces held step = simp append_assoc
+use Rattle.spectro_aut.specs.Written.{step_text}
 
 -- the step at a place, with the text that its label has
 pub step-at : (steps : List Step) (place source label_no target : ℕ) (label : Label) → IsStepAt steps place source label_no target

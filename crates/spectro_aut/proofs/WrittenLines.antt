@@ -19,6 +19,7 @@ use Rattle.spectro_aut.proofs.FieldLaws.{Lacks, Lacks-Contains, Lacks-from_no_Co
 use Rattle.spectro_lines.proofs.HeldLines.{IsUnbroken}
 use Rattle.spectro_lines.proofs.HeldLines as held
 use Rattle.spectro_aut.proofs.WrittenNumbers.{decimal_field, spaced_field, Lacks-decimal, list_all-decimal, length-decimal}
+use Rattle.spectro_io.specs.declared.lines.TheConstants.{LINE_LIMIT}
 
 -- a line that is read as it stands
 pub record IsPlain (line : List ℕ) : Type 0 where
@@ -27,7 +28,7 @@ pub record IsPlain (line : List ℕ) : Type 0 where
   pub some : ¬ AreBlanks line
   pub bare : trimmed line ≡ line
   pub ended : without_cr line ≡ line
-  pub short : length line ≤ 32768
+  pub short : length line ≤ LINE_LIMIT
 
 -- ---- no byte of a line ends it
 Lacks-append : (front rest : List ℕ) (byte : ℕ) → Lacks front byte → Lacks rest byte → Lacks (front ++ rest) byte
@@ -55,7 +56,7 @@ trimmed-closed first others front closes opens =
     (trimmed_core [] (first ∷ others) [] first 41 others front refl refl refl closes opens refl)
 
 closed : (first : ℕ) (others front : List ℕ) → first ∷ others ≡ front ++ 41 ∷ [] → is_blank first ≡ false → Lacks (first ∷ others) 10
-    → IsUtf8 (first ∷ others) → length (first ∷ others) ≤ 32768 → IsPlain (first ∷ others)
+    → IsUtf8 (first ∷ others) → length (first ∷ others) ≤ LINE_LIMIT → IsPlain (first ∷ others)
 closed first others front closes opens lacks utf8 short = record {
   unbroken = held.unbroken (first ∷ others) (Lacks-Contains (first ∷ others) 10 lacks);
   utf8 = utf8;
@@ -113,7 +114,7 @@ header_plain initial transitions states one two three =
     list_all-ascii_append first (codes ", " ++ middle) (list_all-decimal initial (omega arith))
     (list_all-ascii_append second (codes ", " ++ last) (list_all-decimal transitions (omega arith)) (list_all-ascii_append third (codes ")")
     (list_all-decimal states (omega arith)) refl)) in
-    let short : length (header_bytes first second third) ≤ 32768 =
+    let short : length (header_bytes first second third) ≤ LINE_LIMIT =
     omega (
       arith,
       length-append first (codes ", " ++ middle),
@@ -180,7 +181,7 @@ step_plain source target label one two is_label utf8 =
     (list_all-ascii_append first (codes ", \"") (list_all-decimal source (omega arith)) refl) in
     let ending : IsUtf8 (step_ending last) = IsUtf8-list_all (step_ending last) (list_all-ascii_append last (codes ")")
     (list_all-decimal target (omega arith)) refl) in
-    let short : length (step_bytes first label last) ≤ 32768 =
+    let short : length (step_bytes first label last) ≤ LINE_LIMIT =
     omega (
       arith,
       length-append (step_opening first) rest,

@@ -6,6 +6,9 @@ use Rattle.spectro_io.specs.Blanks.{is_blank, trimmed}
 use Rattle.spectro_spec.specs.System.{System, Step}
 use Rattle.spectro_lts.specs.Labels.{labels_of}
 use Rattle.spectro_aut.specs.Fields.{IsNumberField, IsLabelField}
+use Rattle.spectro_io.specs.declared.quoted.TheConstants.{MAX_LABEL_BYTES}
+use Rattle.spectro_aut.specs.declared.header.TheConstants.{MAX_STATES, MAX_TRANSITIONS}
+use Rattle.spectro_aut.specs.declared.reading.TheConstants.{MAX_LABELS}
 
 -- des (INITIAL, TRANSITIONS, STATES), without blanks at its ends
 pub record IsHeader (text : List ℕ) (initial transitions states : ℕ) : Type 0 where
@@ -35,8 +38,8 @@ IsStepLine text step = (field : List ℕ) × IsTransition text step.source field
 
 -- the header keeps the limits
 pub record IsWithinLimits (initial transitions states : ℕ) : Type 0 where
-  pub few_states : states ≤ 65536
-  pub few_transitions : transitions ≤ 1000000
+  pub few_states : states ≤ MAX_STATES
+  pub few_transitions : transitions ≤ MAX_TRANSITIONS
   pub in_range : initial < states
 
 -- both states of the step are among those of the system
@@ -45,7 +48,7 @@ IsInRange system step = (step.source < system.states) × (step.target < system.s
 
 -- the step's label is new behind as many labels as there may be
 abbrev pub IsLabelTooMany : System → Step → Type 0
-IsLabelTooMany system step = (65536 ≤ length (labels_of system.steps)) × (list_any (λ other. bytes_eq step.label other.label) system.steps ≡ false)
+IsLabelTooMany system step = (MAX_LABELS ≤ length (labels_of system.steps)) × (list_any (λ other. bytes_eq step.label other.label) system.steps ≡ false)
 
 -- the system with the step behind the others
 abbrev pub with_step : System → Step → System
@@ -65,5 +68,5 @@ pub data Gives (reading : Reading) (line : List ℕ) (next : Reading) : Type 0 w
   header : (initial transitions states : ℕ) → reading ≡ start → IsHeader (trimmed line) initial transitions states → IsWithinLimits initial transitions states
       → next ≡ steps transitions (without_steps initial states) → Gives reading line next
   step : (transitions : ℕ) (system : System) (step : Step) → reading ≡ steps transitions system → IsStepLine (trimmed line) step
-      → length step.label ≤ 8192 → IsInRange system step → (IsLabelTooMany system step → ⊥) → length system.steps < transitions
+      → length step.label ≤ MAX_LABEL_BYTES → IsInRange system step → (IsLabelTooMany system step → ⊥) → length system.steps < transitions
       → next ≡ steps transitions (with_step system step) → Gives reading line next

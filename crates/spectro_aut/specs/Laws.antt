@@ -4,6 +4,7 @@ use Rattle.spectro_io.specs.Limits.{read_limit}
 use Rattle.spectro_spec.specs.System.{System}
 use Rattle.spectro_aut.specs.Texts.{IsText, IsFirstFault}
 use Rattle.spectro_aut.specs.declared.error.AutFault.{AutFault}
+use Rattle.spectro_io.specs.declared.read.TheConstants.{TEXT_LIMIT}
 
 -- a text is of at most one system
 abbrev pub EachTextHasAtMostOneSystem : Type 0
@@ -23,7 +24,7 @@ EachTextHasASystemOrAFault = (text : List ℕ) → ((system : System) × IsText 
 
 -- the text of a system is no longer than a text may be
 abbrev pub TextsAreShort : Type 0
-TextsAreShort = (text : List ℕ) (system : System) → IsText text system → length text ≤ 67108864
+TextsAreShort = (text : List ℕ) (system : System) → IsText text system → length text ≤ TEXT_LIMIT
 
 -- the fault of as many bytes as are read is that of the whole text
 abbrev pub FaultsOfFrontsStay : Type 0

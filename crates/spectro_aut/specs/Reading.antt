@@ -12,6 +12,9 @@ use Rattle.spectro_aut.specs.Grammar.{Reading, start, steps, with_step, without_
 use Rattle.spectro_aut.specs.declared.error.AutKind.{AutKind}
 use Rattle.spectro_aut.specs.declared.error.AutKind.TheVariants.{NoHeader, BadHeader, TooManyStates, TooManyTransitions, NoState, BadInitial, BadLine, BadLabel, LabelTooLong, StateRange, TooManyLabels, ExtraLine}
 use Rattle.spectro_aut.specs.declared.header.Header.{Header}
+use Rattle.spectro_io.specs.declared.quoted.TheConstants.{MAX_LABEL_BYTES}
+use Rattle.spectro_aut.specs.declared.header.TheConstants.{MAX_STATES, MAX_TRANSITIONS}
+use Rattle.spectro_aut.specs.declared.reading.TheConstants.{MAX_LABELS}
 
 -- what is left before the byte, where the text ends with it
 abbrev pub before_last : ℕ → List ℕ → Option (List ℕ)
@@ -80,8 +83,8 @@ label_of field = if is_bare field then utf8_of field else (do
 -- the header, if it keeps the limits
 abbrev pub header_within : Header → Result Header AutKind
 header_within header =
-    if nat_lt 65536 header.states then Err TooManyStates
-    else (if nat_lt 1000000 header.transitions then Err TooManyTransitions
+    if nat_lt MAX_STATES header.states then Err TooManyStates
+    else (if nat_lt MAX_TRANSITIONS header.transitions then Err TooManyTransitions
     else (if header.states == 0 then Err NoState
     else (if nat_le header.states header.initial then Err BadInitial
     else Ok header)))
@@ -101,9 +104,9 @@ header_in text = header_begun (after (codes "des") text)
 -- the step, if it may follow those of the system, of which there may be so many
 abbrev pub step_within : ℕ → System → Step → Result Step AutKind
 step_within transitions system step =
-    if nat_lt 8192 (length step.label) then Err LabelTooLong
+    if nat_lt MAX_LABEL_BYTES (length step.label) then Err LabelTooLong
     else (if nat_le system.states step.source || nat_le system.states step.target then Err StateRange
-    else (if nat_le 65536 (length (labels_of system.steps)) && not (list_any (λ other. bytes_eq step.label other.label) system.steps) then Err TooManyLabels
+    else (if nat_le MAX_LABELS (length (labels_of system.steps)) && not (list_any (λ other. bytes_eq step.label other.label) system.steps) then Err TooManyLabels
     else (if nat_le transitions (length system.steps) then Err ExtraLine
     else Ok step)))
 

@@ -7,6 +7,8 @@ use Rattle.spectro_aut.specs.declared.error.AutKind.{AutKind}
 use Rattle.spectro_aut.specs.declared.header.Header.{Header}
 use Rattle.spectro_aut.specs.declared.reading.NewStep.{NewStep}
 use Rattle.spectro_aut.specs.declared.reading.Steps.{Steps}
+use Rattle.spectro_aut.specs.declared.header.TheConstants.{MAX_STATES, MAX_TRANSITIONS}
+use Rattle.spectro_aut.specs.declared.reading.TheConstants.{MAX_LABELS}
 
 abbrev pub reading_of : Option Steps → Reading
 reading_of None = start
@@ -15,10 +17,10 @@ reading_of (Some started) = steps started.header.transitions started.draft
 -- the draft has the header's states, which are few, and no more steps and labels than it may have
 pub record IsDraftOf (header : Header) (draft : System) : Type 0 where
   pub states : draft.states ≡ header.states
-  pub few_states : header.states ≤ 65536
-  pub promised : header.transitions ≤ 1000000
+  pub few_states : header.states ≤ MAX_STATES
+  pub promised : header.transitions ≤ MAX_TRANSITIONS
   pub few_steps : length draft.steps ≤ header.transitions
-  pub few_labels : length (labels_of draft.steps) ≤ 65536
+  pub few_labels : length (labels_of draft.steps) ≤ MAX_LABELS
 
 abbrev pub IsWithin : Option Steps → Type 0
 IsWithin None = Unit {0}
@@ -39,5 +41,5 @@ pub record MayFollow (header : Header) (draft : System) (step : Step) : Type 0 w
   pub source : step.source < draft.states
   pub target : step.target < draft.states
   pub room : length draft.steps < header.transitions
-  pub few_labels : length (labels_of (draft.steps ++ step ∷ [])) ≤ 65536
+  pub few_labels : length (labels_of (draft.steps ++ step ∷ [])) ≤ MAX_LABELS
   pub label : IsLabel step.label

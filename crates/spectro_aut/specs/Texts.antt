@@ -10,6 +10,7 @@ use Rattle.spectro_aut.specs.declared.error.AutError.TheVariants.{Text, OutOfMem
 use Rattle.spectro_aut.specs.declared.error.AutFault.{AutFault}
 use Rattle.spectro_aut.specs.declared.error.AutKind.{AutKind}
 use Rattle.spectro_aut.specs.declared.error.AutKind.TheVariants.{NotText, TooLong}
+use Rattle.spectro_io.specs.declared.read.TheConstants.{TEXT_LIMIT}
 
 -- a text gives the system of its lines, and may end behind as many steps as the header says
 abbrev pub aut_form : Form Reading System AutKind
@@ -19,7 +20,7 @@ aut_form = record {
   IsFault = IsLineFault;
   Ends = λ reading system. reading ≡ steps (length system.steps) system;
   EndsEarly = λ reading lines number kind. EndsEarly reading kind × (number ≡ lines + 1);
-  limit = 67108864;
+  limit = TEXT_LIMIT;
   too_long = TooLong;
   not_text = NotText;
 }

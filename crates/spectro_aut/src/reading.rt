@@ -7,17 +7,11 @@ ghost use Rattle.spectro_aut.specs.Readings.{given, reading_of, step_of, IsDraft
 use crate::AutKind;
 use crate::header::{Header, header_in};
 use crate::transition::{label_of, transition_of};
-use spectro_io::trim;
+use spectro_io::{MAX_LABEL_BYTES, TEXT_LIMIT, trim};
 use spectro_lines::{Grammar, LineFault};
 use spectro_lts::{Draft, Lts};
 use std::alloc::{AllocError, Global};
 use std::marker::Model;
-
-/// In bytes, line ends counted.
-const MAX_TEXT: usize = 67_108_864;
-
-/// In bytes.
-const MAX_LABEL: usize = 8192;
 
 const MAX_LABELS: u32 = 65_536;
 
@@ -82,7 +76,7 @@ impl Grammar for Reading {
     }
 
     fn limit() -> usize {
-        MAX_TEXT
+        TEXT_LIMIT
     }
 
     fn too_long() -> AutKind {
@@ -159,7 +153,7 @@ fn step_in<'a>(draft: &Draft, header: Header, line: &'a [u8]) -> Result<NewStep<
     let Some(label) = label_of(transition.field) else {
         return Err(AutKind::BadLabel);
     };
-    if label.len() > MAX_LABEL {
+    if label.len() > MAX_LABEL_BYTES {
         return Err(AutKind::LabelTooLong);
     }
     if transition.source >= header.states || transition.target >= header.states {

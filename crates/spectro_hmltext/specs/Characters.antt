@@ -6,6 +6,7 @@ use Rattle.spectro_io.specs.QuotedLabels.{escaped}
 use Rattle.spectro_hmltext.specs.declared.error.TextKind.{TextKind}
 use Rattle.spectro_hmltext.specs.declared.error.TextKind.TheVariants.{BadLabel}
 use Rattle.spectro_hmltext.specs.Faults.{IsCutLabel}
+use Rattle.spectro_io.specs.declared.quoted.TheConstants.{MAX_LABEL_BYTES}
 
 -- the quote that ends the label stands at this place
 pub record IsClosedAt (inside : List ℕ) (end : ℕ) : Type 0 where
@@ -37,7 +38,7 @@ pub record IsTaken (text : List ℕ) (before bytes : ℕ) (rest : List ℕ) : Ty
   pub whole : text ≡ escaped character ++ rest
   pub some : 0 < length character
   pub added : bytes ≡ before + length character
-  pub short : bytes ≤ 8192
+  pub short : bytes ≤ MAX_LABEL_BYTES
   pub one_line : ¬ Contains character 10
   pub utf8 : IsUtf8 rest
 
@@ -47,4 +48,4 @@ IsCharacterFault text bytes left kind = (label : Label) → length label ≡ byt
 
 -- the label has too many bytes, and the text is what is left
 abbrev pub IsTooLong : List ℕ → ℕ → List ℕ → TextKind → Type 0
-IsTooLong text bytes left kind = (left ≡ text) × (kind ≡ BadLabel) × (8192 < bytes)
+IsTooLong text bytes left kind = (left ≡ text) × (kind ≡ BadLabel) × (MAX_LABEL_BYTES < bytes)

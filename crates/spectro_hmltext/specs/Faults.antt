@@ -14,6 +14,8 @@ use Rattle.spectro_hmltext.specs.declared.token.Token.{Token}
 use Rattle.spectro_hmltext.specs.declared.token.Token.TheVariants.{Truth, And, Not, Less, Greater, OpenBrace, CloseBrace, Comma, Quote, End}
 use Rattle.spectro_hmltext.specs.Tokens.{Begins, token_of}
 use Rattle.spectro_hmltext.specs.FormulaTexts.{StandsLabel, StandsFormula, StandsClause}
+use Rattle.spectro_io.specs.declared.quoted.TheConstants.{MAX_LABEL_BYTES}
+use Rattle.spectro_hmltext.specs.declared.parser.TheConstants.{MAX_NESTING, MAX_TEXT_BYTES}
 
 -- the first token of the text can't stand there
 pub data IsMisplaced (text left : List ℕ) (kind : TextKind) : Type 0 where
@@ -31,11 +33,11 @@ pub data IsCutLabel (label : Label) (after left : List ℕ) (kind : TextKind) : 
   no_escape : (byte : ℕ) (more : List ℕ) → after ≡ 92 ∷ byte ∷ more → byte ≢ 34 → byte ≢ 92 → left ≡ after → kind ≡ BadLabel → IsCutLabel label after left kind
   line_feed : (more : List ℕ) → after ≡ 10 ∷ more → left ≡ after → kind ≡ BadLabel → IsCutLabel label after left kind
   -- a quote or a backslash, in its escape, is a byte too many
-  escape_over : (byte : ℕ) (more : List ℕ) → after ≡ 92 ∷ byte ∷ more → (byte ≡ 34) ⊎ (byte ≡ 92) → 8192 < length label + 1 → left ≡ after → kind ≡ BadLabel
+  escape_over : (byte : ℕ) (more : List ℕ) → after ≡ 92 ∷ byte ∷ more → (byte ≡ 34) ⊎ (byte ≡ 92) → MAX_LABEL_BYTES < length label + 1 → left ≡ after → kind ≡ BadLabel
       → IsCutLabel label after left kind
   -- another character has too many bytes
   character_over : (byte : ℕ) (more : List ℕ) → after ≡ byte ∷ more → byte ≢ 34 → byte ≢ 92 → (nat_lt 127 byte && nat_lt byte 192) ≡ false
-      → 8192 < length label + 1 + length (continuation_of more)
+      → MAX_LABEL_BYTES < length label + 1 + length (continuation_of more)
       → left ≡ after → kind ≡ BadLabel → IsCutLabel label after left kind
 
 -- at the front of the text no label stands in quotes
@@ -52,19 +54,19 @@ mutual
   -- where a formula is to stand, in as many others as its nesting is above 1
   pub data IsFormulaFault (left : List ℕ) (kind : TextKind) : ℕ → List ℕ → Type 0 where
     no_formula : (nesting : ℕ) (text : List ℕ) → ¬ BeginsFormula (token_of text) → IsMisplaced text left kind → IsFormulaFault left kind nesting text
-    too_deep : (nesting : ℕ) (text : List ℕ) → BeginsFormula (token_of text) → 256 < nesting → left ≡ skip_blanks text → kind ≡ TooDeep
+    too_deep : (nesting : ℕ) (text : List ℕ) → BeginsFormula (token_of text) → MAX_NESTING < nesting → left ≡ skip_blanks text → kind ≡ TooDeep
         → IsFormulaFault left kind nesting text
-    no_label : (nesting : ℕ) (text opened : List ℕ) → nesting ≤ 256 → Begins Less text opened → IsLabelFault opened left kind
+    no_label : (nesting : ℕ) (text opened : List ℕ) → nesting ≤ MAX_NESTING → Begins Less text opened → IsLabelFault opened left kind
         → IsFormulaFault left kind nesting text
-    no_end_of_label : (nesting : ℕ) (text opened : List ℕ) (label : Label) (labelled : List ℕ) → nesting ≤ 256 → Begins Less text opened
+    no_end_of_label : (nesting : ℕ) (text opened : List ℕ) (label : Label) (labelled : List ℕ) → nesting ≤ MAX_NESTING → Begins Less text opened
         → StandsLabel opened label labelled → token_of labelled ≢ Greater
         → IsMisplaced labelled left kind → IsFormulaFault left kind nesting text
-    in_observation : (nesting : ℕ) (text opened : List ℕ) (label : Label) (labelled closed : List ℕ) → nesting ≤ 256 → Begins Less text opened
+    in_observation : (nesting : ℕ) (text opened : List ℕ) (label : Label) (labelled closed : List ℕ) → nesting ≤ MAX_NESTING → Begins Less text opened
         → StandsLabel opened label labelled → Begins Greater labelled closed
         → IsFormulaFault left kind (nesting + 1) closed → IsFormulaFault left kind nesting text
-    no_brace : (nesting : ℕ) (text word : List ℕ) → nesting ≤ 256 → Begins And text word → token_of word ≢ OpenBrace → IsMisplaced word left kind
+    no_brace : (nesting : ℕ) (text word : List ℕ) → nesting ≤ MAX_NESTING → Begins And text word → token_of word ≢ OpenBrace → IsMisplaced word left kind
         → IsFormulaFault left kind nesting text
-    in_conjunction : (nesting : ℕ) (text word opened : List ℕ) → nesting ≤ 256 → Begins And text word → Begins OpenBrace word opened
+    in_conjunction : (nesting : ℕ) (text word opened : List ℕ) → nesting ≤ MAX_NESTING → Begins And text word → Begins OpenBrace word opened
         → AreFaultyClauses left kind (nesting + 1) opened → IsFormulaFault left kind nesting text
 
   -- where a clause is to stand
@@ -91,8 +93,8 @@ pub data IsTextFault (text left : List ℕ) (kind : TextKind) : Type 0 where
 
 -- the text is too long; or else, with so much of it left, it has the fault
 pub data IsFirstFault (text : List ℕ) (fault : TextFault) : Type 0 where
-  too_long : 65536 < length text → fault.at ≡ 65536 → fault.kind ≡ TooLong → IsFirstFault text fault
-  other : length text ≤ 65536 → (left : List ℕ) → IsTextFault text left fault.kind → fault.at + length left ≡ length text → IsFirstFault text fault
+  too_long : MAX_TEXT_BYTES < length text → fault.at ≡ MAX_TEXT_BYTES → fault.kind ≡ TooLong → IsFirstFault text fault
+  other : length text ≤ MAX_TEXT_BYTES → (left : List ℕ) → IsTextFault text left fault.kind → fault.at + length left ≡ length text → IsFirstFault text fault
 
 -- what an error says of the text; want of memory says nothing
 abbrev pub IsRefused : List ℕ → ParseError → Type 0

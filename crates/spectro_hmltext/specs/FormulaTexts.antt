@@ -9,6 +9,7 @@ use Rattle.spectro_io.specs.Blanks.{skip_blanks}
 use Rattle.spectro_io.specs.QuotedLabels.{escaped}
 use Rattle.spectro_hmltext.specs.declared.token.Token.TheVariants.{Truth, And, Not, Less, Greater, OpenBrace, CloseBrace, Comma, End}
 use Rattle.spectro_hmltext.specs.Tokens.{Begins, token_of}
+use Rattle.spectro_hmltext.specs.declared.parser.TheConstants.{MAX_NESTING, MAX_TEXT_BYTES}
 
 -- the label stands in quotes at the front of the text, with its escapes, and the rest behind it
 pub record StandsLabel (text : List ℕ) (label : Label) (rest : List ℕ) : Type 0 where
@@ -19,10 +20,10 @@ abbrev mutual
   -- the formula stands at the front of the text, in as many others as its nesting is above 1, and the rest behind it
   pub StandsFormula : ℕ → List ℕ → Formula → List ℕ → Type 0
   StandsFormula nesting text (see label formula) rest =
-      (nesting ≤ 256) × (opened : List ℕ) × Begins Less text opened × (labelled : List ℕ) × StandsLabel opened label labelled × (closed : List ℕ)
+      (nesting ≤ MAX_NESTING) × (opened : List ℕ) × Begins Less text opened × (labelled : List ℕ) × StandsLabel opened label labelled × (closed : List ℕ)
       × Begins Greater labelled closed
       × StandsFormula (nesting + 1) closed formula rest
-  StandsFormula nesting text (all clauses) rest = (nesting ≤ 256) × StandsConjunction nesting text clauses rest
+  StandsFormula nesting text (all clauses) rest = (nesting ≤ MAX_NESTING) × StandsConjunction nesting text clauses rest
 
   -- `tt`, or `and` and the clauses in braces
   pub StandsConjunction : ℕ → List ℕ → Clauses → List ℕ → Type 0
@@ -51,7 +52,7 @@ StandsClause nesting text false formula rest = (negated : List ℕ) × Begins No
 
 -- the text is one of the formula
 pub record IsFormulaText (text : List ℕ) (formula : Formula) : Type 0 where
-  pub short : length text ≤ 65536
+  pub short : length text ≤ MAX_TEXT_BYTES
   pub rest : List ℕ
   pub whole : StandsFormula 1 text formula rest
   pub end : token_of rest ≡ End

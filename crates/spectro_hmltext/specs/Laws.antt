@@ -6,6 +6,7 @@ use Rattle.spectro_hmltext.specs.declared.error.TextFault.{TextFault}
 use Rattle.spectro_hmltext.specs.FormulaTexts.{IsFormulaText}
 use Rattle.spectro_hmltext.specs.Faults.{IsFirstFault}
 use Rattle.spectro_hmltext.specs.Printed.{formula_text, nesting_of, HasLabels}
+use Rattle.spectro_hmltext.specs.declared.parser.TheConstants.{MAX_NESTING, MAX_TEXT_BYTES}
 
 abbrev pub EachTextHasAtMostOneFormula : Type 0
 EachTextHasAtMostOneFormula = (text : List ℕ) (one other : Formula) → IsFormulaText text one → IsFormulaText text other → one ≡ other
@@ -23,7 +24,7 @@ EachTextHasAFormulaOrAFault = (text : List ℕ) → IsUtf8 text → ((formula : 
 
 -- what is printed of a formula is a text of it, where it keeps the limits of a text
 abbrev pub PrintedTextsAreRead : Type 0
-PrintedTextsAreRead = (formula : Formula) → HasLabels formula → nesting_of formula ≤ 256 → length (formula_text formula) ≤ 65536
+PrintedTextsAreRead = (formula : Formula) → HasLabels formula → nesting_of formula ≤ MAX_NESTING → length (formula_text formula) ≤ MAX_TEXT_BYTES
     → IsFormulaText (formula_text formula) formula
 
 -- what is printed of the formula of a text has at most twice as many bytes as a text may have

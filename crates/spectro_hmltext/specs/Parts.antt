@@ -11,6 +11,7 @@ use Rattle.spectro_hmltext.specs.Tokens.{Begins, token_of}
 use Rattle.spectro_hmltext.specs.FormulaTexts.{StandsFormula, StandsClause, StandOthers}
 use Rattle.spectro_hmltext.specs.Faults.{BeginsFormula, IsMisplaced, IsFormulaFault}
 use Rattle.spectro_hmltext.specs.Numbering.{number_of, numbered, nodes_of, nodes_of_clauses}
+use Rattle.spectro_hmltext.specs.declared.parser.TheConstants.{MAX_NESTING}
 
 -- another token is the first of the text, and can't stand there
 abbrev pub IsNotFirst : Token → List ℕ → List ℕ → TextKind → Type 0
@@ -20,7 +21,7 @@ IsNotFirst token text left kind = (token_of text ≢ token) × IsMisplaced text 
 pub record IsBegun (nesting : ℕ) (text : List ℕ) (token : Token) (behind : List ℕ) : Type 0 where
   pub begins : Begins token text behind
   pub formula : BeginsFormula token
-  pub shallow : nesting ≤ 256
+  pub shallow : nesting ≤ MAX_NESTING
   pub utf8 : IsUtf8 behind
 
 -- the clause has the sign, and its formula begins so

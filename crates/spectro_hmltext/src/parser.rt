@@ -53,7 +53,7 @@ pub fn parse(alloc: Global, text: &str) -> Result<Parsed, ParseError>
 // The formula, with nothing behind it.
 fn whole(alloc: Global, text: &[u8]) -> Result<Parsed, Stop>
     requires utf8 { IsUtf8 text.now }
-    requires short { length text.now ≤ 65536 }
+    requires short { length text.now ≤ MAX_TEXT_BYTES }
     ensures ok { IfOk result (λ parsed. IsParsed text.now parsed.sheet parsed.top) }
     ensures stopped { IfErr result (StopsAt (IsTextFault text.now)) }
 {
@@ -132,7 +132,7 @@ fn observation<'a>(
     sheet: &mut Sheet,
 ) -> Result<Read<'a>, Stop>
     requires utf8 { IsUtf8 opened.now }
-    requires nesting { nesting ≤ 256 }
+    requires nesting { nesting ≤ MAX_NESTING }
     ensures ok { IfOk result (λ read. IsReadBehind Less nesting opened.now sheet.old sheet.new read.node read.rest.now) }
     ensures stopped { IfErr result (StopsAt (IsFaultBehind Less nesting opened.now)) }
 {
@@ -155,7 +155,7 @@ fn conjunction<'a>(
     sheet: &mut Sheet,
 ) -> Result<Read<'a>, Stop>
     requires utf8 { IsUtf8 word.now }
-    requires nesting { nesting ≤ 256 }
+    requires nesting { nesting ≤ MAX_NESTING }
     ensures ok { IfOk result (λ read. IsReadBehind And nesting word.now sheet.old sheet.new read.node read.rest.now) }
     ensures stopped { IfErr result (StopsAt (IsFaultBehind And nesting word.now)) }
 {

@@ -56,7 +56,7 @@ struct Taken<'a> {
 // Takes the next character of a label with so many bytes before it. `None` at the quote that ends the label.
 fn take_character(text: &[u8], bytes: usize) -> Result<Option<Taken<'_>>, Stop>
     requires utf8 { IsUtf8 text.now }
-    requires short { bytes ≤ 8192 }
+    requires short { bytes ≤ MAX_LABEL_BYTES }
     ensures ok { IfOk result (λ next. MatchOption next (BeginsWithQuote text.now) (λ taken. IsTaken text.now bytes taken.bytes taken.rest.now)) }
     ensures stopped { IfErr result (StopsAt (IsCharacterFault text.now bytes)) }
 {
@@ -75,7 +75,7 @@ fn take_character(text: &[u8], bytes: usize) -> Result<Option<Taken<'_>>, Stop>
 // Takes a quote or a backslash, behind the backslash at the front.
 fn take_escape(text: &[u8], bytes: usize) -> Result<Option<Taken<'_>>, Stop>
     requires utf8 { IsUtf8 text.now }
-    requires short { bytes ≤ 8192 }
+    requires short { bytes ≤ MAX_LABEL_BYTES }
     requires escape { (more : List ℕ) × (text.now ≡ 92 ∷ more) }
     ensures ok { IfOk result (λ next. MatchOption next (BeginsWithQuote text.now) (λ taken. IsTaken text.now bytes taken.bytes taken.rest.now)) }
     ensures stopped { IfErr result (StopsAt (IsCharacterFault text.now bytes)) }
@@ -95,7 +95,7 @@ fn take_escape(text: &[u8], bytes: usize) -> Result<Option<Taken<'_>>, Stop>
 // Takes a character that stands as it is.
 fn take_plain(text: &[u8], bytes: usize) -> Result<Option<Taken<'_>>, Stop>
     requires utf8 { IsUtf8 text.now }
-    requires short { bytes ≤ 8192 }
+    requires short { bytes ≤ MAX_LABEL_BYTES }
     requires plain { BeginsPlain text.now }
     ensures ok { IfOk result (λ next. MatchOption next (BeginsWithQuote text.now) (λ taken. IsTaken text.now bytes taken.bytes taken.rest.now)) }
     ensures stopped { IfErr result (StopsAt (IsCharacterFault text.now bytes)) }
@@ -115,7 +115,7 @@ fn continuation_length(text: &[u8]) -> usize
 
 // What stands behind a character, if the label has no byte too many with it.
 fn within<'a>(text: &'a [u8], bytes: usize, rest: &'a [u8]) -> Result<Option<Taken<'a>>, Stop>
-    ensures ok { IfOk result (λ next. MatchOption next ⊥ (λ taken. (taken.bytes ≡ bytes) × (taken.rest.now ≡ rest.now) × (bytes ≤ 8192))) }
+    ensures ok { IfOk result (λ next. MatchOption next ⊥ (λ taken. (taken.bytes ≡ bytes) × (taken.rest.now ≡ rest.now) × (bytes ≤ MAX_LABEL_BYTES))) }
     ensures stopped { IfErr result (StopsAt (IsTooLong text.now bytes)) }
 {
     if bytes > MAX_LABEL_BYTES {

@@ -7,10 +7,11 @@ use Rattle.std.proofs.KnownBytes.{Consumes-nil, Consumes-trans}
 use Rattle.std.proofs.lemmas.List.{nil_from_length}
 use Rattle.std.proofs.lemmas.List.Folds.{list_any-append}
 use Rattle.spectro_io.specs.Lines.{without_cr, after_line}
-use Rattle.spectro_io.specs.LineReaders.{ReaderState, line_limit, has_line_feed, Holds, Takes, HasReadAll, AnswersLine, AnswersEnd, HoldsUnended}
+use Rattle.spectro_io.specs.LineReaders.{ReaderState, has_line_feed, Holds, Takes, HasReadAll, AnswersLine, AnswersEnd, HoldsUnended}
 use Rattle.spectro_io.specs.LineSteps.{gathered, answered}
 use Rattle.spectro_io.proofs.LineFeeds.{before-append, after-append, before-none, after-none}
 use Rattle.spectro_io.proofs.Gathered.{take-front, kept-front, cut-front}
+use Rattle.spectro_io.specs.declared.lines.TheConstants.{LINE_LIMIT}
 
 -- nothing was taken yet
 pub takes-none : (reader : ReaderState) (left : Option (List ℕ)) → Takes reader reader left left (Holds reader)
@@ -58,8 +59,8 @@ gathered-unended reader held none holds =
       held = record {
         front = holds.front ++ reader.ahead;
         unended = unended;
-        begun = ap (λ bytes. take (line_limit + 2) (reader.begun ++ bytes)) all ∙ ap (λ begun. take (line_limit + 2) (begun ++ reader.ahead)) holds.begun
-            ∙ take-front (line_limit + 2) holds.front reader.ahead;
+        begun = ap (λ bytes. take (LINE_LIMIT + 2) (reader.begun ++ bytes)) all ∙ ap (λ begun. take (LINE_LIMIT + 2) (begun ++ reader.ahead)) holds.begun
+            ∙ take-front (LINE_LIMIT + 2) holds.front reader.ahead;
         whole = holds.whole ∙ sym (append-nil (holds.front ++ reader.ahead))
             ∙ ap (λ bytes. (holds.front ++ reader.ahead) ++ bytes) (sym (after-none (λ byte. byte == 10) reader.ahead none));
       };
@@ -73,14 +74,14 @@ gathered-line reader after held found holds =
     let line : before_first (λ byte. byte == 10) held ≡ front ++ before_first (λ byte. byte == 10) reader.ahead = ap
     (before_first (λ byte. byte == 10)) holds.whole ∙ before-append (λ byte. byte == 10) front reader.ahead holds.unended in
     let rest : after_line held ≡ after_line reader.ahead = ap after_line holds.whole ∙ after-append (λ byte. byte == 10) front reader.ahead holds.unended in
-    let begun : take (line_limit + 2) (reader.begun ++ before_first (λ byte. byte == 10) reader.ahead) ≡ take (line_limit + 2)
+    let begun : take (LINE_LIMIT + 2) (reader.begun ++ before_first (λ byte. byte == 10) reader.ahead) ≡ take (LINE_LIMIT + 2)
     (before_first (λ byte. byte == 10) held) =
-    ap (λ begun. take (line_limit + 2) (begun ++ before_first (λ byte. byte == 10) reader.ahead)) holds.begun
-    ∙ take-front (line_limit + 2) front (before_first (λ byte. byte == 10) reader.ahead) ∙ ap (take (line_limit + 2)) (sym line) in
+    ap (λ begun. take (LINE_LIMIT + 2) (begun ++ before_first (λ byte. byte == 10) reader.ahead)) holds.begun
+    ∙ take-front (LINE_LIMIT + 2) front (before_first (λ byte. byte == 10) reader.ahead) ∙ ap (take (LINE_LIMIT + 2)) (sym line) in
     let ended : has_line_feed held ≡ true = rw (holds.whole, list_any-append (λ byte. byte == 10) front reader.ahead, holds.unended) found in
     record {
-      line = ap (λ bytes. take line_limit (without_cr bytes)) begun ∙ kept-front line_limit (before_first (λ byte. byte == 10) held);
-      cut = ap (λ bytes. nat_lt line_limit (length (without_cr bytes))) begun ∙ cut-front line_limit (before_first (λ byte. byte == 10) held);
+      line = ap (λ bytes. take LINE_LIMIT (without_cr bytes)) begun ∙ kept-front LINE_LIMIT (before_first (λ byte. byte == 10) held);
+      cut = ap (λ bytes. nat_lt LINE_LIMIT (length (without_cr bytes))) begun ∙ cut-front LINE_LIMIT (before_first (λ byte. byte == 10) held);
       held = record { front = []; unended = refl; begun = refl; whole = rest };
       some = some_found held ended;
       last = λ none. absurd (cc (ended, none));
@@ -107,17 +108,17 @@ last-line reader after bytes done begun read holds =
     let all : bytes ≡ holds.front = holds.whole ∙ ap (λ ahead. holds.front ++ ahead) done ∙ append-nil holds.front in
     let none : has_line_feed bytes ≡ false = ap has_line_feed all ∙ holds.unended in
     let line : before_first (λ byte. byte == 10) bytes ≡ holds.front = before-none (λ byte. byte == 10) bytes none ∙ all in
-    let kept : reader.begun ≡ take (line_limit + 2) (before_first (λ byte. byte == 10) bytes) = holds.begun ∙ ap (take (line_limit + 2)) (sym line) in
+    let kept : reader.begun ≡ take (LINE_LIMIT + 2) (before_first (λ byte. byte == 10) bytes) = holds.begun ∙ ap (take (LINE_LIMIT + 2)) (sym line) in
     record {
-      line = ap (λ begun. take line_limit (without_cr begun)) kept ∙ kept-front line_limit (before_first (λ byte. byte == 10) bytes);
-      cut = ap (λ begun. nat_lt line_limit (length (without_cr begun))) kept ∙ cut-front line_limit (before_first (λ byte. byte == 10) bytes);
+      line = ap (λ begun. take LINE_LIMIT (without_cr begun)) kept ∙ kept-front LINE_LIMIT (before_first (λ byte. byte == 10) bytes);
+      cut = ap (λ begun. nat_lt LINE_LIMIT (length (without_cr begun))) kept ∙ cut-front LINE_LIMIT (before_first (λ byte. byte == 10) bytes);
       held = record { front = []; unended = refl; begun = refl; whole = after-none (λ byte. byte == 10) bytes none ∙ sym done };
       some = some_bytes bytes all;
       last = λ _. read;
     }
   where
     some_bytes : (bytes : List ℕ) → bytes ≡ holds.front → 0 < length bytes
-    some_bytes [] is = absurd (begun (holds.begun ∙ ap (take (line_limit + 2)) (sym is)))
+    some_bytes [] is = absurd (begun (holds.begun ∙ ap (take (LINE_LIMIT + 2)) (sym is)))
     some_bytes (byte ∷ bytes) is = omega arith
 
 -- nothing is left
@@ -125,7 +126,7 @@ pub last-none : (reader : ReaderState) (after : Option (List ℕ)) (bytes : List
     → Holds reader bytes → AnswersEnd reader after bytes
 last-none reader after bytes done begun read holds =
     let none : holds.front ≡ [] = nil_from_length holds.front
-    (omega (arith, length-take (line_limit + 2) holds.front, ap length holds.begun, ap length begun)) in
+    (omega (arith, length-take (LINE_LIMIT + 2) holds.front, ap length holds.begun, ap length begun)) in
     record {
       none = holds.whole ∙ ap (λ ahead. holds.front ++ ahead) done ∙ append-nil holds.front ∙ none;
       held = record { front = []; unended = refl; begun = begun; whole = sym done };

@@ -5,6 +5,7 @@ use Rattle.std.specs.Io.KnownBytes.{Consumes, IsAtEnd}
 use Rattle.std.proofs.KnownBytes.{Consumes-trans}
 use Rattle.spectro_io.specs.Limits.{read_limit}
 use Rattle.spectro_io.specs.Reads.{ReadsInto}
+use Rattle.spectro_io.specs.declared.read.TheConstants.{READ_LIMIT}
 
 module _ {Intake : Type 0} (has_taken : Intake → List ℕ → Type 0) where
   -- so many bytes were taken from the front of the source
@@ -26,7 +27,7 @@ module _ {Intake : Type 0} (has_taken : Intake → List ℕ → Type 0) where
   }
 
   -- as many bytes were taken as are read of a text
-  pub read_full : (old new : Option (List ℕ)) (before now : Intake) (count : ℕ) → HasReadSoFar old new before now count → count ≤ 67108865 → 67108865 ≤ count
+  pub read_full : (old new : Option (List ℕ)) (before now : Intake) (count : ℕ) → HasReadSoFar old new before now count → count ≤ READ_LIMIT → READ_LIMIT ≤ count
       → ReadsInto has_taken old new before now
   unfolding read_limit
   read_full old new before now count so_far within full =
@@ -38,7 +39,7 @@ module _ {Intake : Type 0} (has_taken : Intake → List ℕ → Type 0) where
       }
 
   -- no byte is left
-  pub read_whole : (old mid new : Option (List ℕ)) (before now : Intake) (count : ℕ) → HasReadSoFar old mid before now count → count ≤ 67108865
+  pub read_whole : (old mid new : Option (List ℕ)) (before now : Intake) (count : ℕ) → HasReadSoFar old mid before now count → count ≤ READ_LIMIT
       → Consumes mid new [] → IsAtEnd new → ReadsInto has_taken old new before now
   unfolding read_limit
   read_whole old mid new before now count so_far within none end =

@@ -4,6 +4,7 @@ use Rattle.std.specs.List.{list_any}
 use Rattle.std.specs.Io.KnownBytes.{Consumes, IsAtEnd}
 use Rattle.spectro_io.specs.Limits.{read_limit}
 use Rattle.spectro_io.specs.Lines.{first_line, after_line}
+use Rattle.spectro_io.specs.declared.lines.TheConstants.{LINE_LIMIT}
 
 pub record ReaderState : Type 0 where
   -- how many bytes were taken from sources
@@ -17,10 +18,6 @@ pub record ReaderState : Type 0 where
   -- that line was longer
   pub cut : Bool
 
--- as many bytes of a line are kept
-abbrev pub line_limit : ℕ
-line_limit = 32768
-
 -- an LF stands among the bytes
 abbrev pub has_line_feed : List ℕ → Bool
 has_line_feed bytes = list_any (λ byte. byte == 10) bytes
@@ -29,7 +26,7 @@ has_line_feed bytes = list_any (λ byte. byte == 10) bytes
 pub record Holds (reader : ReaderState) (held : List ℕ) : Type 0 where
   pub front : List ℕ
   pub unended : has_line_feed front ≡ false
-  pub begun : reader.begun ≡ take (line_limit + 2) front
+  pub begun : reader.begun ≡ take (LINE_LIMIT + 2) front
   pub whole : held ≡ front ++ reader.ahead
 
 -- these bytes were taken from the source, and what was held, with these after it, is answered so
@@ -46,8 +43,8 @@ pub record HasReadAll (reader : ReaderState) (after : Option (List ℕ)) : Type 
 
 -- the first line of the bytes is kept, and what comes after it is held; a line that no LF ends is not empty, and the last one
 pub record AnswersLine (new : ReaderState) (after : Option (List ℕ)) (bytes : List ℕ) : Type 0 where
-  pub line : new.line ≡ take line_limit (first_line bytes)
-  pub cut : new.cut ≡ nat_lt line_limit (length (first_line bytes))
+  pub line : new.line ≡ take LINE_LIMIT (first_line bytes)
+  pub cut : new.cut ≡ nat_lt LINE_LIMIT (length (first_line bytes))
   pub held : Holds new (after_line bytes)
   pub some : 0 < length bytes
   pub last : has_line_feed bytes ≡ false → HasReadAll new after

@@ -1,6 +1,7 @@
 -- Labels in double quotes. Between these each quote and each backslash of the label stands behind a backslash.
 use Rattle.std.specs.Prelude.{ℕ, ◌≡◌, ◌≤◌, ◌==◌, ◌&&◌, ◌||◌, not, Bool, true, false, List, [], ◌∷◌, ◌++◌, length, if◌then◌else◌}
 use Rattle.spectro_io.specs.LineReaders.{has_line_feed}
+use Rattle.spectro_io.specs.declared.quoted.TheConstants.{MAX_LABEL_BYTES}
 
 -- a quote or a backslash
 abbrev pub is_escaped : ℕ → Bool
@@ -26,8 +27,8 @@ pub record BeginsInQuotes (text inside rest : List ℕ) : Type 0 where
   pub whole : text ≡ 34 ∷ inside ++ 34 ∷ rest
   pub closed : is_closed_behind false inside ≡ true
 
--- this stands for the label between the quotes; a label has at most 8192 bytes, and none of them ends a line
+-- this stands for the label between the quotes; a label has so many bytes at most, and none of them ends a line
 pub record IsQuoted (inside label : List ℕ) : Type 0 where
   pub whole : inside ≡ escaped label
-  pub short : length label ≤ 8192
+  pub short : length label ≤ MAX_LABEL_BYTES
   pub one_line : has_line_feed label ≡ false

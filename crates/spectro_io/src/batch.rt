@@ -18,12 +18,13 @@ pub struct Batch {
 
 impl Model for Batch {
     ghost use Rattle.std.specs.Prelude.{◌≤◌, ℕ, List, take};
+    ghost use Rattle.spectro_io.specs.declared.batch.TheConstants.{MOST};
 
     ghost Value = { List ℕ };
 
     ghost view = { λ b. take b.len b.bytes };
 
-    ghost invariant = { λ b. b.len ≤ 8192 };
+    ghost invariant = { λ b. b.len ≤ MOST };
 }
 
 impl Batch {

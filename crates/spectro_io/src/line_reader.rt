@@ -5,7 +5,7 @@ ghost use Rattle.spectro_io.specs.declared.line_reader.Got.TheVariants.{Line, En
 ghost use Rattle.spectro_io.specs.Faults.{HasCause};
 ghost use Rattle.spectro_io.specs.Limits.{read_limit};
 ghost use Rattle.spectro_io.specs.LineSteps.{gathered, answered, refilled};
-ghost use Rattle.spectro_io.specs.LineReaders.{line_limit, has_line_feed, Holds, Takes, AnswersLine, AnswersEnd, HoldsUnended, KeepsLine};
+ghost use Rattle.spectro_io.specs.LineReaders.{has_line_feed, Holds, Takes, AnswersLine, AnswersEnd, HoldsUnended, KeepsLine};
 
 use crate::lines::{LINE_LIMIT, line_feed, without_cr};
 use crate::read::PIECE;

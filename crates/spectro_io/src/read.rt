@@ -7,8 +7,11 @@ ghost use Rattle.spectro_io.specs.Reads.{ReadsAll, ReadsInto, TakesFront};
 use crate::{Failed, Source};
 use std::alloc::{AllocError, Global};
 
+/// As many bytes a text has at most, line ends counted.
+pub const TEXT_LIMIT: usize = 67_108_864;
+
 /// As many bytes of a text are read: one more than a text may have.
-pub const READ_LIMIT: usize = 67_108_865;
+pub const READ_LIMIT: usize = TEXT_LIMIT + 1;
 
 // Bytes that are lent to one read.
 pub(crate) const PIECE: usize = 65_536;

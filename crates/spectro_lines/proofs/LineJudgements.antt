@@ -2,16 +2,16 @@
 use Rattle.std.proofs.Common.{◌≡◌, ℕ, ◌+◌, ◌<◌, ◌≤◌, List, [], ◌∷◌, ◌++◌, length, sym, subst, ap, inl, inr, arith}
 use Rattle.std.specs.Str.{IsUtf8}
 use Rattle.spectro_io.specs.Blanks.{AreBlanks}
-use Rattle.spectro_io.specs.LineReaders.{line_limit}
 use Rattle.spectro_io.specs.Lines.{first_line}
 use Rattle.spectro_lines.specs.Form.{Form}
 use Rattle.spectro_lines.specs.LineReading.{IsTaken, IsRefused}
 use Rattle.spectro_lines.specs.Texts.{Before, behind, IsTooLong, LeadsTo, IsRead, IsFaulty, Follow}
+use Rattle.spectro_io.specs.declared.lines.TheConstants.{LINE_LIMIT}
 
 module _ {State Value Kind : Type 0} (form : Form State Value Kind) where
   -- a line that ends within the text, and what stands in it before its line end
   module _ (before : Before State) (line text : List ℕ) (first : first_line line ≡ text) (within : before.bytes + length line ≤ form.limit) where
-    fit : length text ≤ line_limit → ¬ IsTooLong form before.bytes line
+    fit : length text ≤ LINE_LIMIT → ¬ IsTooLong form before.bytes line
     fit short (inl long) = omega (arith, ap length first)
     fit short (inr over) = omega (arith, within, over)
 
@@ -23,7 +23,7 @@ module _ {State Value Kind : Type 0} (form : Form State Value Kind) where
     }
 
     pub refused-IsFaulty : (kind : Kind) → IsRefused form before.state text kind → IsFaulty form before line kind
-    refused-IsFaulty kind (IsRefused.too_long long is) = IsFaulty.too_long (inl (subst (λ text. line_limit < length text) (sym first) long)) is
+    refused-IsFaulty kind (IsRefused.too_long long is) = IsFaulty.too_long (inl (subst (λ text. LINE_LIMIT < length text) (sym first) long)) is
     refused-IsFaulty kind (IsRefused.not_text short other is) = IsFaulty.not_text (fit short) (λ utf8. other (subst IsUtf8 first utf8)) is
     refused-IsFaulty kind (IsRefused.other short utf8 some fault) =
         IsFaulty.other (fit short) (subst IsUtf8 (sym first) utf8) (λ blank. some (subst AreBlanks first blank))

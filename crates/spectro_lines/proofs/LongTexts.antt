@@ -7,6 +7,7 @@ use Rattle.spectro_io.specs.Lines.{with_byte, lines_of}
 use Rattle.spectro_lines.specs.Form.{Form}
 use Rattle.spectro_lines.specs.Texts.{Before, nothing_before, behind, IsRead, IsFaulty, too_long, Follow, HasFault, IsText, IsFirstFault}
 use Rattle.spectro_lines.proofs.Faults.{too_long-only, HasFault-cons, HasFault-here, HasFault-later}
+use Rattle.spectro_io.specs.declared.read.TheConstants.{TEXT_LIMIT}
 
 -- how many bytes the lines have, line ends counted
 abbrev total : List (List ℕ) → ℕ
@@ -48,7 +49,7 @@ cut-lines_of (byte ∷ front) back = by (cases_Bool (byte == 10)) (cut-lines_of 
     by (inr other) later = rw other (cut-with_byte byte (lines_of front) (lines_of (front ++ back)) later)
 
 -- as many bytes as are read of any text are more than one may have
-pub read_limit-large : 67108864 < read_limit
+pub read_limit-large : TEXT_LIMIT < read_limit
 unfolding read_limit
 read_limit-large = omega arith
 

@@ -6,12 +6,12 @@ use Rattle.std.specs.Str.{IsUtf8, is_utf8}
 use Rattle.std.proofs.lemmas.Bool.{both_ways, cases_Bool, cases_lt}
 use Rattle.std.proofs.lemmas.Str.{IsUtf8-from_is_utf8, is_utf8-from_IsUtf8}
 use Rattle.spectro_io.specs.Blanks.{is_blank, AreBlanks}
-use Rattle.spectro_io.specs.LineReaders.{line_limit}
 use Rattle.spectro_io.specs.Lines.{first_line, lines_of}
 use Rattle.spectro_lines.specs.Form.{Form}
 use Rattle.spectro_lines.specs.Texts.{Before, nothing_before, behind, IsTooLong, LeadsTo, skipped, given, IsRead, IsFaulty, too_long, not_text, other, HasValue, HasFault, at_end, IsText, IsFirstFault}
 use Rattle.spectro_lines.proofs.Faults.{too_long-only, HasFault-nil, HasFault-cons, HasFault-here, HasFault-later, HasValue-later}
 use Rattle.spectro_lines.proofs.Settled.{IsSettled, one_value, one_fault, not_both}
+use Rattle.spectro_io.specs.declared.lines.TheConstants.{LINE_LIMIT}
 
 -- what is so of each state that lines lead to, and why a line, and the end of the text, are settled after such a state
 pub record AreLaws {State Value Kind : Type 0} (form : Form State Value Kind) : Type 1 where
@@ -31,7 +31,7 @@ utf8-cases bytes =
 
 fit-cases : {State Value Kind : Type 0} (form : Form State Value Kind) (bytes : ℕ) (line : List ℕ) → (¬ IsTooLong form bytes line) ⊎ IsTooLong form bytes line
 fit-cases form bytes line =
-    elim (cases_lt line_limit (length (first_line line))) [
+    elim (cases_lt LINE_LIMIT (length (first_line line))) [
       | inl long ↦ inr (inl long)
       | inr short ↦ elim (cases_lt form.limit (bytes + length line)) [
         | inl over ↦ inr (inr over)

@@ -10,6 +10,7 @@ use Rattle.spectro_lines.specs.declared.feed.Progress.{Progress}
 use Rattle.spectro_lines.specs.declared.feed.Progress.TheVariants.{Open, Faulty, Broken}
 use Rattle.spectro_lines.proofs.HeldLines.{IsUnbroken, lines_of-begun, lines_of-ended, lines_of-held, first_line-ended, first_line-held, length-first_line}
 use Rattle.spectro_lines.proofs.LineJudgements.{taken-IsRead, refused-IsFaulty, Follow-push}
+use Rattle.spectro_lines.specs.declared.feed.TheConstants.{MAX_HELD}
 
 -- what a feed that is open says
 pub opened : {State Value Kind : Type 0} (form : Form State Value Kind) (fed : Fed State Kind) (state : State) (taken : List ℕ) → fed.progress ≡ Open state
@@ -69,7 +70,7 @@ module _ {State Value Kind : Type 0} (form : Form State Value Kind) where
         at_line led.front found.0 found.1 (before led.begun) whole led.follow found.3 refl
 
     too_long : (begun : ℕ) (text more : List ℕ) → fed.bytes ≡ begun + length fed.held → IsUnbroken text
-        → (form.limit < begun + length text) ⊎ (32769 < length text) → IsTooLong form begun (text ++ more)
+        → (form.limit < begun + length text) ⊎ (MAX_HELD < length text) → IsTooLong form begun (text ++ more)
     too_long begun text more counted unbroken (inl over) = inr (omega (arith, over, length-append text more))
     too_long begun text more counted unbroken (inr long) =
         let first : length text ≤ length (first_line (text ++ more)) + 1 = length-first_line text more unbroken in
@@ -77,11 +78,11 @@ module _ {State Value Kind : Type 0} (form : Form State Value Kind) where
 
     -- bytes for which there is no room
     pub Takes-over : (part : List ℕ) → IsUnbroken (fed.held ++ part) → 0 < length part
-        → (form.limit < fed.bytes + length part) ⊎ (32769 < length fed.held + length part) → Takes form fed (stopped fed form.too_long) part
+        → (form.limit < fed.bytes + length part) ⊎ (MAX_HELD < length fed.held + length part) → Takes form fed (stopped fed form.too_long) part
     Takes-over part unbroken some over = stops part form.too_long (λ begun counted rest.
         let text = fed.held ++ part in
         let first = lines_of-begun text rest unbroken (omega (arith, length-append fed.held part)) in
-        let long : (form.limit < begun + length text) ⊎ (32769 < length text) =
+        let long : (form.limit < begun + length text) ⊎ (MAX_HELD < length text) =
         elim over [ inl bytes ↦ inl (omega (arith, length-append fed.held part)) | inr held ↦ inr (omega (arith, length-append fed.held part)) ] in
         (text ++ first.0, first.1, first.2, IsFaulty.too_long (too_long begun text first.0 counted unbroken long) refl))
 

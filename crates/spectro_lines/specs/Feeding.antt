@@ -8,6 +8,8 @@ use Rattle.spectro_lines.specs.declared.error.LineError.{LineError}
 use Rattle.spectro_lines.specs.declared.error.LineError.TheVariants.{Text, OutOfMemory}
 use Rattle.spectro_lines.specs.declared.feed.Progress.{Progress}
 use Rattle.spectro_lines.specs.declared.feed.Progress.TheVariants.{Open, Faulty, Broken}
+use Rattle.spectro_io.specs.declared.read.TheConstants.{TEXT_LIMIT}
+use Rattle.spectro_lines.specs.declared.feed.TheConstants.{MAX_HELD}
 
 -- how far the reading has come, how many bytes and whole lines there were, and the bytes of the line that has not ended
 pub record Fed (State Kind : Type 0) : Type 0 where
@@ -33,9 +35,9 @@ module _ {State Value Kind : Type 0} where
   -- no more bytes than a text may have; the lines are no more than these with those of the line that has not ended, which is short and has no LF
   pub record IsWhole (form : Form State Value Kind) (fed : Fed State Kind) : Type 0 where
     pub within : fed.bytes ≤ form.limit
-    pub few : fed.bytes ≤ 67108864
+    pub few : fed.bytes ≤ TEXT_LIMIT
     pub counted : fed.lines + length fed.held ≤ fed.bytes
-    pub short : length fed.held ≤ 32769
+    pub short : length fed.held ≤ MAX_HELD
     pub one_line : ¬ Contains fed.held 10
 
   -- no line of the bytes had a fault: whatever follows, the first lines of the text lead to the state, and the others are those of what is held and follows

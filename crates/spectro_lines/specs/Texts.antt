@@ -3,8 +3,8 @@ use Rattle.std.specs.Prelude.{ℕ, ◌≡◌, ◌+◌, ◌<◌, ◌⊎◌, List,
 use Rattle.std.specs.Str.{IsUtf8}
 use Rattle.spectro_io.specs.Blanks.{AreBlanks}
 use Rattle.spectro_io.specs.Lines.{first_line, lines_of}
-use Rattle.spectro_io.specs.LineReaders.{line_limit}
 use Rattle.spectro_lines.specs.Form.{Form}
+use Rattle.spectro_io.specs.declared.lines.TheConstants.{LINE_LIMIT}
 
 -- what stands before a line: so many bytes, so many lines, and the state that these have led to
 pub record Before (State : Type 0) : Type 0 where
@@ -24,7 +24,7 @@ module _ {State Value Kind : Type 0} where
 
   -- behind so many bytes the line has more bytes than a line may have, its line end not counted, or a byte more than a text may have
   abbrev pub IsTooLong : Form State Value Kind → ℕ → List ℕ → Type 0
-  IsTooLong form bytes line = (line_limit < length (first_line line)) ⊎ (form.limit < bytes + length line)
+  IsTooLong form bytes line = (LINE_LIMIT < length (first_line line)) ⊎ (form.limit < bytes + length line)
 
   -- no line stands before
   abbrev pub nothing_before : Form State Value Kind → Before State

@@ -5,12 +5,12 @@ ghost use Rattle.spectro_lines.specs.declared.error.LineError.TheVariants.{OutOf
 
 use crate::line::{split_at_feed, take_line};
 use crate::{Grammar, LineError, LineFault};
-use spectro_io::without_cr;
+use spectro_io::{LINE_LIMIT, without_cr};
 use std::alloc::{AllocError, Global};
 use std::marker::Model;
 
 /// In bytes, without the LF that ends the line.
-const MAX_HELD: usize = 32_769;
+const MAX_HELD: usize = LINE_LIMIT + 1;
 
 /// How far the reading of a text has come.
 #[derive(Drop)]

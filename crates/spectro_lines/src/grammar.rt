@@ -1,6 +1,7 @@
 ghost use Rattle.std.specs.Prelude.{◌≡◌, ◌≤◌, ℕ, Contains, IfOk, MatchOption, MatchResult};
 ghost use Rattle.spectro_io.specs.Blanks.{AreBlanks};
 ghost use Rattle.spectro_lines.specs.Form.{Form};
+ghost use Rattle.spectro_io.specs.declared.read.TheConstants.{TEXT_LIMIT};
 
 use crate::LineFault;
 use std::alloc::{AllocError, Global};
@@ -32,13 +33,13 @@ pub trait Grammar: Drop {
 
     /// What the text of so many lines stands for, or why it may not end here.
     fn finish(self, lines: u64) -> Result<Result<Self::Value, LineFault<Self::Kind>>, AllocError>
-        requires { lines ≤ 67108864 }
+        requires { lines ≤ TEXT_LIMIT }
         ensures { IfOk result (λ ended. MatchResult ended (form.Ends self) (λ fault. form.EndsEarly self lines fault.line fault.kind)) };
 
     /// How many bytes a text may have, line ends counted.
     fn limit() -> usize
         ensures value { result ≡ form.limit }
-        ensures few { result ≤ 67108864 };
+        ensures few { result ≤ TEXT_LIMIT };
 
     /// The fault of a line that has more than 32,768 bytes without its line end, or a byte more than a text may have.
     fn too_long() -> Self::Kind

@@ -3,11 +3,8 @@ ghost use Rattle.spectro_io.specs.Blanks.{AreBlanks};
 ghost use Rattle.spectro_lines.specs.LineReading.{IsTaken, IsRefused, IsSplit};
 
 use crate::Grammar;
-use spectro_io::trim_start;
+use spectro_io::{LINE_LIMIT, trim_start};
 use std::alloc::{AllocError, Global};
-
-/// In bytes, without the line end.
-const MAX_LINE: usize = 32_768;
 
 // Whether the line is of blanks alone.
 fn is_blank(line: &str) -> bool
@@ -40,7 +37,7 @@ pub(crate) fn take_line<G: Grammar>(
     requires { ¬ Contains line.now 10 }
     ensures { IfOk result (λ fault. MatchOption fault (IsTaken G.form grammar.old number line.now grammar.new) (IsRefused G.form grammar.old line.now)) }
 {
-    if line.len() > MAX_LINE {
+    if line.len() > LINE_LIMIT {
         return Ok(Some(G::too_long()));
     }
     let Ok(line) = str::from_utf8(line) else {

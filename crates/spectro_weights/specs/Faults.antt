@@ -7,6 +7,7 @@ use Rattle.spectro_weights.specs.Setting.{is_set}
 use Rattle.spectro_weights.specs.WeightLines.{IsWeightLine, IsEntryLine}
 use Rattle.spectro_weights.specs.declared.error.WeightKind.{WeightKind}
 use Rattle.spectro_weights.specs.declared.error.WeightKind.TheVariants.{BadLine, BadLabel, BadWeight, Repeated, TooManyLabels}
+use Rattle.spectro_weights.specs.declared.weights.TheConstants.{MAX_LABELS}
 
 -- the line has no label with a weight
 pub data IsEntryFault (line : List ℕ) (kind : WeightKind) : Type 0 where
@@ -19,7 +20,7 @@ pub data IsEntryFault (line : List ℕ) (kind : WeightKind) : Type 0 where
 -- there is no place for the entry behind the others
 pub data IsPlaceFault (weighing : Weighing) (entry : Weight) (kind : WeightKind) : Type 0 where
   repeated : is_set weighing entry.label ≡ true → kind ≡ Repeated → IsPlaceFault weighing entry kind
-  too_many_labels : is_set weighing entry.label ≡ false → 65536 ≤ length weighing → kind ≡ TooManyLabels → IsPlaceFault weighing entry kind
+  too_many_labels : is_set weighing entry.label ≡ false → MAX_LABELS ≤ length weighing → kind ≡ TooManyLabels → IsPlaceFault weighing entry kind
 
 -- the line behind what was read so far
 pub data IsLineFault (weighing : Weighing) (line : List ℕ) (kind : WeightKind) : Type 0 where

@@ -4,6 +4,7 @@ use Rattle.std.specs.List.{list_any, IsDistinct}
 use Rattle.std.specs.Str.{bytes_eq}
 use Rattle.spectro_spec.specs.System.{Label}
 use Rattle.spectro_spec.specs.Weighing.{Weighing, IsWeighing}
+use Rattle.spectro_weights.specs.declared.weights.TheConstants.{MAX_LABELS}
 
 -- the label has a weight of its own
 abbrev pub is_set : Weighing → Label → Bool
@@ -18,5 +19,5 @@ with_weight (entry ∷ weighing) label weight = if bytes_eq entry.label label th
 -- no label stands twice, there are few, and each weight is one of a weighing
 pub record AreWeights (weighing : Weighing) : Type 0 where
   pub distinct : IsDistinct bytes_eq (map (λ entry. entry.label) weighing)
-  pub few : length weighing ≤ 65536
+  pub few : length weighing ≤ MAX_LABELS
   pub weights : IsWeighing weighing

@@ -5,6 +5,7 @@ use Rattle.spectro_io.specs.Numbers.{is_number, number_value}
 use Rattle.spectro_io.specs.QuotedLabels.{is_closed_behind, IsQuoted}
 use Rattle.spectro_spec.specs.Weighing.{Weight, Weighing}
 use Rattle.spectro_weights.specs.Setting.{is_set}
+use Rattle.spectro_weights.specs.declared.weights.TheConstants.{MAX_LABELS}
 
 -- digits, one or more blanks, and this between two quotes, of which the second is the next that no backslash takes with it; blanks may stand at both ends
 pub record IsWeightLine (line digits inside : List ℕ) : Type 0 where
@@ -31,7 +32,7 @@ pub record IsEntryLine (line : List ℕ) (entry : Weight) : Type 0 where
 -- the label is new, and there is room for one more
 pub record HasPlace (weighing : Weighing) (entry : Weight) : Type 0 where
   pub new : is_set weighing entry.label ≡ false
-  pub room : length weighing < 65536
+  pub room : length weighing < MAX_LABELS
 
 -- what the lines so far have given, and the line after them, are this together
 pub record Gives (weighing : Weighing) (line : List ℕ) (next : Weighing) : Type 0 where

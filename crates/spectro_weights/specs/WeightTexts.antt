@@ -10,6 +10,7 @@ use Rattle.spectro_weights.specs.declared.error.WeightError.TheVariants.{Text, O
 use Rattle.spectro_weights.specs.declared.error.WeightFault.{WeightFault}
 use Rattle.spectro_weights.specs.declared.error.WeightKind.{WeightKind}
 use Rattle.spectro_weights.specs.declared.error.WeightKind.TheVariants.{TooLong, NotText}
+use Rattle.spectro_io.specs.declared.read.TheConstants.{TEXT_LIMIT}
 
 -- a text gives the weights of its lines in their order, and may end anywhere
 abbrev pub weight_form : Form Weighing Weighing WeightKind
@@ -19,7 +20,7 @@ weight_form = record {
   IsFault = IsLineFault;
   Ends = λ weighing value. value ≡ weighing;
   EndsEarly = λ weighing lines number kind. ⊥;
-  limit = 67108864;
+  limit = TEXT_LIMIT;
   too_long = TooLong;
   not_text = NotText;
 }

@@ -5,11 +5,9 @@ ghost use Rattle.spectro_weights.specs.WeightTexts.{IsRefused, IsWeightText, wei
 
 use crate::line::{Entry, entry_in};
 use crate::{MAX_LABELS, WeightError, WeightFault, WeightKind, Weights};
+use spectro_io::TEXT_LIMIT;
 use spectro_lines::{Grammar, LineError, LineFault, read};
 use std::alloc::{AllocError, Global};
-
-/// In bytes, line ends counted.
-const MAX_TEXT: usize = 67_108_864;
 
 /// The weights of which the bytes are a text.
 pub fn read_weights(alloc: Global, bytes: &[u8]) -> Result<Weights, WeightError>
@@ -54,7 +52,7 @@ impl Grammar for Weights {
     }
 
     fn limit() -> usize {
-        MAX_TEXT
+        TEXT_LIMIT
     }
 
     fn too_long() -> WeightKind {

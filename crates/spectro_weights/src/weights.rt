@@ -56,14 +56,14 @@ impl Weights {
     /// How many labels were set.
     pub fn label_count(&self) -> u32
         ensures value { result ≡ length self.now }
-        ensures bound { result ≤ 65536 }
+        ensures bound { result ≤ MAX_LABELS }
     {
         self.weights.len() as u32
     }
 
     /// Gives the label the weight in place of the one that it had. A new label goes behind the others.
     pub fn set(&mut self, label: &str, weight: u8) -> Result<(), AllocError>
-        requires room { is_set self.old label.now ≡ false → length self.old < 65536 }
+        requires room { is_set self.old label.now ≡ false → length self.old < MAX_LABELS }
         ensures list { OnOk result (self.new ≡ with_weight self.old label.now weight) }
         ensures value { OnOk result (weight_of self.new label.now ≡ weight) }
         ensures others { OnOk result ((other : Label) → other ≢ label.now → weight_of self.new other ≡ weight_of self.old other) }
@@ -75,7 +75,7 @@ impl Weights {
 
     /// Gives the label the weight, as `set` does, and keeps the label.
     pub(crate) fn insert(&mut self, label: String, weight: u8) -> Result<(), AllocError>
-        requires room { is_set self.old (string_bytes label) ≡ false → length self.old < 65536 }
+        requires room { is_set self.old (string_bytes label) ≡ false → length self.old < MAX_LABELS }
         ensures list { OnOk result (self.new ≡ with_weight self.old (string_bytes label) weight) }
         ensures err { OnErr result (self.new ≡ self.old) }
     {

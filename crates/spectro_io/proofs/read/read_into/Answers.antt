@@ -6,6 +6,7 @@ use Rattle.std.proofs.lemmas.Result.{err_from_is_err_and}
 use Rattle.spectro_io.specs.Limits.{read_limit}
 use Rattle.spectro_io.proofs.ReadSoFar.{read_more}
 use Rattle.spectro_io.proofs.read.read_into.Goals as goal
+use Rattle.spectro_io.specs.declared.read.TheConstants.{READ_LIMIT}
 
 -- memory ran out for bytes that were taken
 pub returns-in_err-take-clause-err : goal.returns-in_err-take-clause-err
@@ -40,7 +41,7 @@ reading-preserved g c =
     let whole : take count (c.read.new.buf ++ drop c.min-room.result c.reading.piece) ≡ piece = take-append-le count c.read.new.buf _ bound.0 in
     let Grows : List ℕ → Type 0 = λ piece.
     (taken : List ℕ) → g.I.Intake.has_taken c.reading.intake taken → g.I.Intake.has_taken c.take.new.self (taken ++ piece) in
-    let room : c.reading.taken + count ≤ 67108865 =
+    let room : c.reading.taken + count ≤ READ_LIMIT =
     omega (arith, bound.0, c.read.auto.buf, length-take c.min-room.result c.reading.piece, c.min-room.ensures, c.reading-test.true) in
     record {
       front = read_more g.I.Intake.has_taken _ _ _ _ c.reading.intake c.take.new.self c.reading.taken count piece so_far.front c.in_ok-count.ensures.bytes.0

@@ -4,6 +4,7 @@ use Rattle.spectro_lines.proofs.HeldLines.{unbroken, unbroken_append}
 use Rattle.spectro_lines.proofs.Rooms.{no_room, some_beyond}
 use Rattle.spectro_lines.proofs.Taking.{Takes-settled, Takes-over, Takes-held}
 use Rattle.spectro_lines.proofs.feed.Feed.hold.Goals as goal
+use Rattle.spectro_lines.specs.declared.feed.TheConstants.{MAX_HELD}
 
 pub returns-in_default : goal.returns-in_default
 returns-in_default g c = Takes-settled g.G.Grammar.form c.args.self.now c.args.part.now (rw (sym c.self.view_is) c.in_default.not-Open)
@@ -15,7 +16,7 @@ returns-then-part-room g c =
     let part = c.args.part.now in
     let fed : Fed _ _ = record { progress = inside.progress; bytes = inside.bytes; lines = inside.lines; held = inside.held.items } in
     let long : c.len.result ≡ length inside.held.items = search (rules, c.len.ensures) in
-    let less : min (form.limit - inside.bytes) (32769 - length inside.held.items) < length part =
+    let less : min (form.limit - inside.bytes) (MAX_HELD - length inside.held.items) < length part =
     rw (c.min-room.ensures, long, c.limit.ensures.value) at c.if-part-room.true in
     let text = unbroken_append inside.held.items part (unbroken inside.held.items c.self.invariant.one_line) (unbroken part c.requires) in
     let stops : Takes form fed (stopped fed form.too_long) part =
