@@ -1,3 +1,8 @@
+//! A text that comes in pieces, of which no more than a line is held: the bytes behind the last LF, until the next LF comes
+//! and the line is read. A fault is kept until the end, since the rest of the text is taken all the same, and behind it
+//! nothing is held. A whole text is a feed of one piece, so there is one reader and one proof. To hold the whole text takes
+//! up to 64 MiB beside what it stands for, and `BufRead::lines` takes memory for each line, however long it is.
+
 ghost use Rattle.std.specs.Prelude.{◌≡◌, ◌<◌, [], ◌∷◌, ◌++◌, List, ℕ, Contains, IfOk, IfErr, OnOk, OnErr, IsErr, Err};
 ghost use Rattle.spectro_lines.specs.Feeding.{EndsLine, HasRead, HasTaken, IsBroken, IsTold, Takes, stopped};
 ghost use Rattle.spectro_lines.specs.Texts.{IsText};
@@ -76,12 +81,13 @@ impl<G: Grammar> Feed<G> {
     }
 
     /// The value of the text that was taken.
-    pub fn finish(self) -> Result<G::Value, LineError<G::Kind>>
+    pub fn finish(mut self) -> Result<G::Value, LineError<G::Kind>>
         ensures ok { IfOk result (λ value. (taken : List ℕ) → HasTaken G.form self taken → IsText G.form taken value) }
         ensures refused { IfErr result (λ error. (taken : List ℕ) → HasTaken G.form self taken → IsTold G.form taken error) }
         ensures broken { IsBroken self → result ≡ Err OutOfMemory }
     {
-        self.ended()
+        self.read_last_line()?;
+        self.answer()
     }
 
     // Takes the bytes, one line after the other.
@@ -176,16 +182,6 @@ impl<G: Grammar> Feed<G> {
             return Ok(());
         }
         self.read_held()
-    }
-
-    // Ends the text.
-    fn ended(mut self) -> Result<G::Value, LineError<G::Kind>>
-        ensures ok { IfOk result (λ value. (taken : List ℕ) → HasTaken G.form self taken → IsText G.form taken value) }
-        ensures refused { IfErr result (λ error. (taken : List ℕ) → HasTaken G.form self taken → IsTold G.form taken error) }
-        ensures broken { IsBroken self → result ≡ Err OutOfMemory }
-    {
-        self.read_last_line()?;
-        self.answer()
     }
 
     // What the text was, behind its last line.
