@@ -106,7 +106,8 @@ abbrev pub step_within : ℕ → System → Step → Result Step AutKind
 step_within transitions system step =
     if nat_lt MAX_LABEL_BYTES (length step.label) then Err LabelTooLong
     else (if nat_le system.states step.source || nat_le system.states step.target then Err StateRange
-    else (if nat_le MAX_LABELS (length (labels_of system.steps)) && not (list_any (λ other. bytes_eq step.label other.label) system.steps) then Err TooManyLabels
+    else (if nat_le MAX_LABELS (length (labels_of system.steps)) && not (list_any (λ other. bytes_eq step.label other.label) system.steps)
+    then Err TooManyLabels
     else (if nat_le transitions (length system.steps) then Err ExtraLine
     else Ok step)))
 

@@ -17,7 +17,8 @@ pub(crate) struct Transition<'a> {
 /// The numbers and the label field of a transition.
 #[tactic(auto, unfolding(crate::specs::Reading::transition_of))]
 pub(crate) fn transition_of(line: &[u8]) -> Option<Transition<'_>>
-    ensures { option_map (λ transition. record { source = transition.source; field = transition.field.now; target = transition.target }) result ≡ transition_of line.now }
+    ensures { option_map (λ transition. record { source = transition.source; field = transition.field.now; target = transition.target }) result
+        ≡ transition_of line.now }
 {
     let opened = line.strip_prefix(b"(")?;
     let fields = before_last(b')', opened)?;

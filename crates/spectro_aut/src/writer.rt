@@ -50,7 +50,8 @@ fn put_step<O: Sink>(
     batch: &mut Batch,
     out: &mut O,
 ) -> Result<(), Failed>
-    ensures bytes { Puts (O.written out.old) (O.written out.new) result batch.new (batch.old ++ step_text (record { source = source; label = label.now; target = target })) }
+    ensures bytes { Puts (O.written out.old) (O.written out.new) result batch.new
+        (batch.old ++ step_text (record { source = source; label = label.now; target = target })) }
     ensures cause { HasCause (O.faults out.old) (O.faults out.new) result }
 {
     let source = digits(source);

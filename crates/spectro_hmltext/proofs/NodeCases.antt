@@ -102,7 +102,8 @@ clauses-cases (suc granted) text rest read few so_far =
     ]
   where
     next : ¬ AreBlanks rest → (found : Option Clause) → found ≡ clause_read (first_token rest)
-        → ((read : List Clause) → length (after_token rest) < granted → HasReadClauses text (after_token rest) read → ((clauses : List Clause) × AreClauses text clauses) ⊎ AreNoClauses text)
+        → ((read : List Clause) → length (after_token rest) < granted → HasReadClauses text (after_token rest) read
+        → ((clauses : List Clause) × AreClauses text clauses) ⊎ AreNoClauses text)
         → ((clauses : List Clause) × AreClauses text clauses) ⊎ AreNoClauses text
     next some None none later = inr (reads_no_more text rest read so_far some none)
     next some (Some clause) found later =

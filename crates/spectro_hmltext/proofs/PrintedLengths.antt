@@ -1,4 +1,5 @@
--- What is printed of the formula of a text has at most twice as many bytes as that text: `not ` has one byte more than its token, and each other token as many as in the text.
+-- What is printed of the formula of a text has at most twice as many bytes as that text:
+-- `not ` has one byte more than its token, and each other token as many as in the text.
 use Rattle.std.proofs.Common.{◌≡◌, ◌∙◌, ℕ, ◌+◌, ◌*◌, ◌≤◌, List, [], ◌∷◌, ◌++◌, length, ap, arith, length-append}
 use Rattle.std.specs.Prelude.{codes}
 use Rattle.spectro_spec.specs.System.{Label}

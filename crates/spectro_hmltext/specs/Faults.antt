@@ -1,4 +1,5 @@
--- The first fault of a formula's text, from the left: so far the text is one of a formula, and then it goes on so. What is left of the text from the fault on says where it is.
+-- The first fault of a formula's text, from the left: so far the text is one of a formula, and then it goes on so.
+-- What is left of the text from the fault on says where it is.
 use Rattle.std.specs.Prelude.{ℕ, ◌≡◌, ◌≢◌, ◌+◌, ◌<◌, ◌≤◌, ◌⊎◌, ◌&&◌, not, nat_lt, Bool, false, List, [], ◌∷◌, ◌++◌, length}
 use Rattle.std.specs.List.{before_first}
 use Rattle.spectro_spec.specs.System.{Label, IsLabel}
@@ -33,7 +34,8 @@ pub data IsCutLabel (label : Label) (after left : List ℕ) (kind : TextKind) : 
   no_escape : (byte : ℕ) (more : List ℕ) → after ≡ 92 ∷ byte ∷ more → byte ≢ 34 → byte ≢ 92 → left ≡ after → kind ≡ BadLabel → IsCutLabel label after left kind
   line_feed : (more : List ℕ) → after ≡ 10 ∷ more → left ≡ after → kind ≡ BadLabel → IsCutLabel label after left kind
   -- a quote or a backslash, in its escape, is a byte too many
-  escape_over : (byte : ℕ) (more : List ℕ) → after ≡ 92 ∷ byte ∷ more → (byte ≡ 34) ⊎ (byte ≡ 92) → MAX_LABEL_BYTES < length label + 1 → left ≡ after → kind ≡ BadLabel
+  escape_over : (byte : ℕ) (more : List ℕ) → after ≡ 92 ∷ byte ∷ more → (byte ≡ 34) ⊎ (byte ≡ 92) → MAX_LABEL_BYTES < length label + 1
+      → left ≡ after → kind ≡ BadLabel
       → IsCutLabel label after left kind
   -- another character has too many bytes
   character_over : (byte : ℕ) (more : List ℕ) → after ≡ byte ∷ more → byte ≢ 34 → byte ≢ 92 → (nat_lt 127 byte && nat_lt byte 192) ≡ false

@@ -32,7 +32,8 @@ pub record BeginsClause (text : List ℕ) (clause : Clause) (rest : List ℕ) : 
   pub is_number : is_number digits ≡ true
   pub value : clause.node ≡ number_value digits
 
--- blanks, if any, then this between two quotes, of which the second is the next that no backslash takes with it, and behind it nothing, or a blank and what follows
+-- blanks, if any, then this between two quotes, of which the second is the next that no backslash takes with it,
+-- and behind it nothing, or a blank and what follows
 pub record BeginsQuoted (text inside rest : List ℕ) : Type 0 where
   pub front : List ℕ
   pub whole : text ≡ front ++ 34 ∷ inside ++ 34 ∷ rest

@@ -1,3 +1,9 @@
+//! A sheet shares its parts, so the text of a formula may be longer than the sheet by any power of two. Its length is
+//! found first, node by node, lowest first, in numbers that stop at the greatest one; a text that is too long costs no byte.
+//! Then the text is written with a stack of what is still to be written, since a sheet may be as deep as it is long: what
+//! stands on the stack, from its top, is the rest of the text. To print until the limit is passed would write all those
+//! bytes for nothing, and functions that call each other would need a call for each level.
+
 ghost use Rattle.std.specs.Prelude.{◌≡◌, ◌<◌, [], ◌∷◌, ◌++◌, length, codes, string_bytes, Some, IfOk, OnOk};
 ghost use Rattle.spectro_hml.specs.Nodes.{node_shown};
 ghost use Rattle.spectro_hml.specs.Sheets.{unfolded};
@@ -88,7 +94,8 @@ fn write_rest(
     rests: &mut Vec<Rest>,
 ) -> Result<(), AllocError>
     requires { IsRest sheet.now rest }
-    ensures { OnOk result (Leaves sheet.now (rest_text sheet.now rest) (string_bytes text.old) (string_bytes text.new) rests.old.items rests.new.items) }
+    ensures { OnOk result (Leaves sheet.now (rest_text sheet.now rest) (string_bytes text.old) (string_bytes text.new)
+        rests.old.items rests.new.items) }
 {
     match rest {
         Rest::Formula(node) => write_formula(sheet, node, text, rests),
@@ -103,7 +110,8 @@ fn write_formula(
     rests: &mut Vec<Rest>,
 ) -> Result<(), AllocError>
     requires { node < length sheet.now }
-    ensures { OnOk result (Leaves sheet.now (rest_text sheet.now (Formula node)) (string_bytes text.old) (string_bytes text.new) rests.old.items rests.new.items) }
+    ensures { OnOk result (Leaves sheet.now (rest_text sheet.now (Formula node)) (string_bytes text.old) (string_bytes text.new)
+        rests.old.items rests.new.items) }
 {
     match sheet.node(node) {
         Node::See { label, next } => write_observation(label, next, text, rests),
@@ -123,7 +131,8 @@ fn write_clauses(
     rests: &mut Vec<Rest>,
 ) -> Result<(), AllocError>
     requires { node < length sheet.now }
-    ensures { OnOk result (Leaves sheet.now (rest_text sheet.now (Clauses node from)) (string_bytes text.old) (string_bytes text.new) rests.old.items rests.new.items) }
+    ensures { OnOk result (Leaves sheet.now (rest_text sheet.now (Clauses node from)) (string_bytes text.old) (string_bytes text.new)
+        rests.old.items rests.new.items) }
 {
     let clauses = clauses_of(sheet.node(node));
     if from >= clauses.len() {

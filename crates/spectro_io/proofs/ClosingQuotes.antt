@@ -19,7 +19,8 @@ closing-closed (byte ∷ inside) rest place backslash closed = by (not backslash
     (closing-closed inside rest (place + 1) (not backslash && (byte == 92)))
   where
     by : (ends : Bool) → (not backslash && (byte == 34)) ≡ ends
-        → (is_closed_behind (not backslash && (byte == 92)) inside ≡ true → closing_from (place + 1) (not backslash && (byte == 92)) (inside ++ 34 ∷ rest) ≡ Some (place + 1 + length inside))
+        → (is_closed_behind (not backslash && (byte == 92)) inside ≡ true
+        → closing_from (place + 1) (not backslash && (byte == 92)) (inside ++ 34 ∷ rest) ≡ Some (place + 1 + length inside))
         → closing_from place backslash (byte ∷ inside ++ 34 ∷ rest) ≡ Some (place + length (byte ∷ inside))
     by true e later = absurd (true≢false (sym closed ∙ ap (λ ends. cond ends false (is_closed_behind (not backslash && (byte == 92)) inside)) e))
     by false e later =

@@ -27,8 +27,8 @@ module _ {Intake : Type 0} (has_taken : Intake → List ℕ → Type 0) where
   }
 
   -- as many bytes were taken as are read of a text
-  pub read_full : (old new : Option (List ℕ)) (before now : Intake) (count : ℕ) → HasReadSoFar old new before now count → count ≤ READ_LIMIT → READ_LIMIT ≤ count
-      → ReadsInto has_taken old new before now
+  pub read_full : (old new : Option (List ℕ)) (before now : Intake) (count : ℕ) → HasReadSoFar old new before now count
+      → count ≤ READ_LIMIT → READ_LIMIT ≤ count → ReadsInto has_taken old new before now
   unfolding read_limit
   read_full old new before now count so_far within full =
       let counted = so_far.counted in

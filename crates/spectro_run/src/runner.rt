@@ -29,7 +29,8 @@ fn perform<H: Shelf, O: Sink>(
     out: &mut O,
 ) -> Status
     requires limit { IfSome command (λ command. HasLimit (asked command)) }
-    ensures answer { IsAnswered (H.texts shelf.old) (option_map asked command.entry) (Rose (H.faults shelf.old) (H.faults shelf.new)) (Rose (O.faults out.old) (O.faults out.new)) result (O.written out.old) (O.written out.new) }
+    ensures answer { IsAnswered (H.texts shelf.old) (option_map asked command.entry) (Rose (H.faults shelf.old) (H.faults shelf.new))
+        (Rose (O.faults out.old) (O.faults out.new)) result (O.written out.old) (O.written out.new) }
     ensures whole { JudgesWhole (H.texts shelf.old) (option_map asked command.entry) (H.left shelf.new) result }
     ensures usage { option_map asked command.entry ≡ None → result ≡ Status.Usage }
     ensures read { result ≢ Status.ReadFault → H.faults shelf.new ≡ H.faults shelf.old }
@@ -73,7 +74,8 @@ pub fn run<H: Shelf, I: Source, O: Sink, E: Sink>(
 ) -> Status
     // The status and the bytes are those of the words and of what the files hold. A text of a file is judged when it has been
     // read to its end, or as far as a text is read.
-    ensures answer { IsAnswered (H.texts shelf.old) (command (words_of words.now)) (Rose (H.faults shelf.old) (H.faults shelf.new)) (Rose (O.faults out.old) (O.faults out.new)) result (O.written out.old) (O.written out.new) }
+    ensures answer { IsAnswered (H.texts shelf.old) (command (words_of words.now)) (Rose (H.faults shelf.old) (H.faults shelf.new))
+        (Rose (O.faults out.old) (O.faults out.new)) result (O.written out.old) (O.written out.new) }
     ensures whole { JudgesWhole (H.texts shelf.old) (command (words_of words.now)) (H.left shelf.new) result }
     ensures usage { command (words_of words.now) ≡ None → result ≡ Status.Usage }
 

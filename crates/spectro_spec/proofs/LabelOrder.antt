@@ -116,7 +116,8 @@ Contains-labels_from_cases (step ∷ steps) p label member = go (step.source == 
   where
     go : (here : Bool) → (Contains (labels_from steps p) label → Contains (labels_by_step steps p) label)
         → Contains (cond here (placed_label step.label (labels_from steps p)) (labels_from steps p)) label
-        → Contains (map (λ (step : Step). step.label) (cond here (step ∷ filter (λ (step : Step). step.source == p) steps) (filter (λ (step : Step). step.source == p) steps))) label
+        → Contains (map (λ (step : Step). step.label) (cond here (step ∷ filter (λ (step : Step). step.source == p) steps)
+        (filter (λ (step : Step). step.source == p) steps))) label
     go true rest h = elim (Contains-placed_label_cases step.label (labels_from steps p) label h) [
       | inl e ↦ Contains-first_is step.label (labels_by_step steps p) label e
       | inr later ↦ Contains-later step.label (labels_by_step steps p) label (rest later)
@@ -128,7 +129,8 @@ Contains-labels_from_has [] p label member = member
 Contains-labels_from_has (step ∷ steps) p label member = go (step.source == p) (Contains-labels_from_has steps p label) member
   where
     go : (here : Bool) → (Contains (labels_by_step steps p) label → Contains (labels_from steps p) label)
-        → Contains (map (λ (step : Step). step.label) (cond here (step ∷ filter (λ (step : Step). step.source == p) steps) (filter (λ (step : Step). step.source == p) steps))) label
+        → Contains (map (λ (step : Step). step.label) (cond here (step ∷ filter (λ (step : Step). step.source == p) steps)
+        (filter (λ (step : Step). step.source == p) steps))) label
         → Contains (cond here (placed_label step.label (labels_from steps p)) (labels_from steps p)) label
     go true rest h = elim (Contains-cases step.label (labels_by_step steps p) label h) [
       | inl e ↦ Contains-placed_label step.label (labels_from steps p) label (inl e)

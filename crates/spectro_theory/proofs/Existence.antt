@@ -69,7 +69,8 @@ module _ {X : Type 0} (same : X → X → Bool) (same-true : (x y : X) → same 
   grown (suc fuel) xs k to within inside enough = go (cases_lt k (length xs)) (grown fuel)
     where
       go : (k < length xs) ⊎ (length xs ≤ k)
-          → ((xs : List X) (k : ℕ) → AreReachedTo follow starts xs k 0 → k ≤ length xs → AreInside xs → length all ≤ k + fuel → (ys : List X) × AreReached follow starts ys)
+          → ((xs : List X) (k : ℕ) → AreReachedTo follow starts xs k 0 → k ≤ length xs → AreInside xs
+          → length all ≤ k + fuel → (ys : List X) × AreReached follow starts ys)
           → (ys : List X) × AreReached follow starts ys
       go (inr past) on = at_end xs k (omega arith) to
       go (inl below) on =

@@ -82,7 +82,8 @@ pub fn eval<H: Shelf>(
     weights: Option<&str>,
     shelf: &mut H,
 ) -> Result<Evaluated, Status>
-    ensures prepared { IsPrepared (H.texts shelf.old) (words.eval formula.now file.now (named weights.entry)) (λ evaluated. eval_text evaluated.truth evaluated.parts (price_of evaluated.price.parts)) (Rose (H.faults shelf.old) (H.faults shelf.new)) result }
+    ensures prepared { IsPrepared (H.texts shelf.old) (words.eval formula.now file.now (named weights.entry))
+        (λ evaluated. eval_text evaluated.truth evaluated.parts (price_of evaluated.price.parts)) (Rose (H.faults shelf.old) (H.faults shelf.new)) result }
     ensures whole { IfErr result (JudgesWhole (H.texts shelf.old) (Some (words.eval formula.now file.now (named weights.entry))) (H.left shelf.new)) }
     ensures counts { Counts (H.faults shelf.old) (H.faults shelf.new) result }
     ensures texts { H.texts shelf.new ≡ H.texts shelf.old }

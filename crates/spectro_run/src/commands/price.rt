@@ -62,7 +62,8 @@ pub fn price<H: Shelf>(
     weights: Option<&str>,
     shelf: &mut H,
 ) -> Result<Priced, Status>
-    ensures prepared { IsPrepared (H.texts shelf.old) (words.price formula.now (named weights.entry)) (λ priced. priced_text priced.text priced.parts (price_of priced.price.parts)) (Rose (H.faults shelf.old) (H.faults shelf.new)) result }
+    ensures prepared { IsPrepared (H.texts shelf.old) (words.price formula.now (named weights.entry))
+        (λ priced. priced_text priced.text priced.parts (price_of priced.price.parts)) (Rose (H.faults shelf.old) (H.faults shelf.new)) result }
     ensures whole { IfErr result (JudgesWhole (H.texts shelf.old) (Some (words.price formula.now (named weights.entry))) (H.left shelf.new)) }
     ensures counts { Counts (H.faults shelf.old) (H.faults shelf.new) result }
     ensures texts { H.texts shelf.new ≡ H.texts shelf.old }

@@ -28,7 +28,8 @@ impl Written for Rewritten {
 
 /// The file's system, to be written.
 pub fn rewrite<H: Shelf>(alloc: Global, file: &str, shelf: &mut H) -> Result<Rewritten, Status>
-    ensures prepared { IsPrepared (H.texts shelf.old) (words.rewrite file.now) (λ rewritten. text_of rewritten.lts) (Rose (H.faults shelf.old) (H.faults shelf.new)) result }
+    ensures prepared { IsPrepared (H.texts shelf.old) (words.rewrite file.now) (λ rewritten. text_of rewritten.lts)
+        (Rose (H.faults shelf.old) (H.faults shelf.new)) result }
     ensures whole { IfErr result (JudgesWhole (H.texts shelf.old) (Some (words.rewrite file.now)) (H.left shelf.new)) }
     ensures counts { Counts (H.faults shelf.old) (H.faults shelf.new) result }
     ensures texts { H.texts shelf.new ≡ H.texts shelf.old }

@@ -72,7 +72,8 @@ pub fn size<H: Shelf>(
     shelf: &mut H,
 ) -> Result<Extent, Status>
     requires limit { IsLimit limit }
-    ensures prepared { IsPrepared (H.texts shelf.old) (words.size left.now right.now limit) (λ extent. size_line extent.pairs extent.positions) (Rose (H.faults shelf.old) (H.faults shelf.new)) result }
+    ensures prepared { IsPrepared (H.texts shelf.old) (words.size left.now right.now limit) (λ extent. size_line extent.pairs extent.positions)
+        (Rose (H.faults shelf.old) (H.faults shelf.new)) result }
     ensures whole { IfErr result (JudgesWhole (H.texts shelf.old) (Some (words.size left.now right.now limit)) (H.left shelf.new)) }
     ensures counts { Counts (H.faults shelf.old) (H.faults shelf.new) result }
     ensures texts { H.texts shelf.new ≡ H.texts shelf.old }
