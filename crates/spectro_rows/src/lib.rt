@@ -1,0 +1,6 @@
+//! Rows of items, one behind the other in one vector: put last, read by number, grouped by a key, and turned round.
+#![tactic(auto)]
+
+mod rows;
+
+pub use rows::Rows;

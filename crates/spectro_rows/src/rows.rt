@@ -1,0 +1,76 @@
+ghost use Rattle.std.specs.Prelude.{◌≡◌, ◌<◌, [], ◌∷◌, ◌++◌, length, slice_get, Some, OnOk, OnErr};
+ghost use Rattle.spectro_rows.specs.Rows.{start_of};
+
+use std::alloc::{AllocError, Global};
+use std::marker::Model;
+
+/// Rows of items, one behind the other in one vector, and behind them a row that is still open.
+#[derive(Drop)]
+pub struct Rows<T> {
+    items: Vec<T>,
+    ends: Vec<usize>,
+}
+
+impl<T> Model for Rows<T> {
+    ghost use Rattle.spectro_rows.specs.Rows.{RowList, rows_of, AreEnds};
+
+    ghost Value = { RowList T };
+
+    ghost view = { λ r. rows_of r.ends.items r.items.items };
+
+    ghost invariant = { λ r. AreEnds 0 r.ends.items r.items.items };
+}
+
+impl<T: Copy> Rows<T> {
+    /// No row but an open one without items.
+    pub fn new(alloc: Global) -> Rows<T>
+        ensures { result ≡ record { rows = []; last = [] } }
+    {
+        Rows {
+            items: Vec::new(alloc),
+            ends: Vec::new(alloc),
+        }
+    }
+
+    /// How many rows are closed.
+    pub fn len(&self) -> usize
+        ensures { result ≡ length self.now.rows }
+    {
+        self.ends.len()
+    }
+
+    /// The row at place `k`.
+    pub fn row(&self, k: usize) -> &[T]
+        requires { k < length self.now.rows }
+        ensures { slice_get self.now.rows k ≡ Some result.now }
+    {
+        let from = start(&self.ends, k);
+        &self.items[from..self.ends[k]]
+    }
+
+    /// Puts an item at the end of the open row.
+    pub fn push(&mut self, item: T) -> Result<(), AllocError>
+        ensures ok { OnOk result (self.new ≡ record self.old { last = self.old.last ++ item ∷ [] }) }
+        ensures err { OnErr result (self.new ≡ self.old) }
+    {
+        self.items.push(item)?;
+        Ok(())
+    }
+
+    /// Closes the open row, and opens one without items.
+    pub fn close(&mut self) -> Result<(), AllocError>
+        ensures ok { OnOk result (self.new ≡ record { rows = self.old.rows ++ self.old.last ∷ []; last = [] }) }
+        ensures err { OnErr result (self.new ≡ self.old) }
+    {
+        self.ends.push(self.items.len())?;
+        Ok(())
+    }
+}
+
+// Where the row at place `k` begins: at the end of the one before.
+fn start(ends: &[usize], k: usize) -> usize
+    requires { k < length ends.now }
+    ensures { result ≡ start_of 0 ends.now k }
+{
+    if k == 0 { 0 } else { ends[k - 1] }
+}
