@@ -1,1 +1,5 @@
 pub mod RowLists
+pub mod FilledParts
+pub mod PartedRows
+pub mod Stamps
+pub mod TurnedRows

@@ -39,7 +39,8 @@ row_read ends items flat rows k from to is below start end same =
     cc
 
 -- the number of a row is that of an end
-pub row_number_below : {T : Type 0} (ends : List ℕ) (items : List T) (rows : List (List T)) (k : ℕ) → rows_to 0 ends items ≡ rows → k < length rows → k < length ends
+pub row_number_below : {T : Type 0} (ends : List ℕ) (items : List T) (rows : List (List T)) (k : ℕ) → rows_to 0 ends items ≡ rows → k < length rows
+    → k < length ends
 row_number_below ends items rows k is below = omega (arith, length-rows_to 0 ends items, ap length is)
 
 from-within : {T : Type 0} (from : ℕ) (ends : List ℕ) (items : List T) → AreEnds from ends items → from ≤ length items
@@ -61,7 +62,8 @@ unfolding AreEnds
 ends-more from [] items more here = omega (arith, length-append items more)
 ends-more from (end ∷ ends) items more (up, rest) = (up, ends-more end ends items more rest)
 
-rows_to-more : {T : Type 0} (from : ℕ) (ends : List ℕ) (items more : List T) → AreEnds from ends items → rows_to from ends (items ++ more) ≡ rows_to from ends items
+rows_to-more : {T : Type 0} (from : ℕ) (ends : List ℕ) (items more : List T) → AreEnds from ends items
+    → rows_to from ends (items ++ more) ≡ rows_to from ends items
 unfolding AreEnds rows_to
 rows_to-more from [] items more here = refl
 rows_to-more from (end ∷ ends) items more (up, rest) =
@@ -106,7 +108,8 @@ unfolding AreEnds
 ends-nil [] items none = omega arith
 ends-nil (end ∷ ends) items none = absurd cc
 
-pub rows_of-more : {T : Type 0} (ends : List ℕ) (items new : List T) (item : T) (old : RowList T) → AreEnds 0 ends items → rows_of ends items ≡ old → new ≡ items ++ item ∷ []
+pub rows_of-more : {T : Type 0} (ends : List ℕ) (items new : List T) (item : T) (old : RowList T) → AreEnds 0 ends items → rows_of ends items ≡ old
+    → new ≡ items ++ item ∷ []
     → rows_of ends new ≡ record { rows = old.rows; last = old.last ++ item ∷ [] }
 rows_of-more ends items new item old are is more =
     let rows : rows_to 0 ends (items ++ item ∷ []) ≡ rows_to 0 ends items = rows_to-more 0 ends items (item ∷ []) are in
@@ -129,3 +132,9 @@ pub are_ends : {T : Type 0} (from : ℕ) (ends : List ℕ) (items : List T) → 
 unfolding AreEnds start_of
 are_ends from [] items up last = last
 are_ends from (end ∷ ends) items up last = (up 0 (omega arith), are_ends end ends items (λ k below. up (suc k) (omega arith)) last)
+
+-- what is behind the last end begins there
+pub last_after-is : {T : Type 0} (from : ℕ) (ends : List ℕ) (items : List T) → last_after from ends items ≡ drop (start_of from ends (length ends)) items
+unfolding last_after start_of
+last_after-is from [] items = refl
+last_after-is from (end ∷ ends) items = last_after-is end ends items

@@ -1,5 +1,5 @@
 -- Rows that stand one behind the other in one list of items, each up to its end.
-use Rattle.std.specs.Prelude.{ℕ, zero, suc, ◌-◌, ◌≤◌, List, [], ◌∷◌, length, take, drop}
+use Rattle.std.specs.Prelude.{ℕ, zero, suc, ◌-◌, ◌≤◌, List, [], ◌∷◌, length, take, drop, slice_index_or}
 
 -- closed rows, and the open one behind them
 pub record RowList (T : Type 0) : Type 0 where
@@ -30,3 +30,7 @@ AreEnds from (end ∷ ends) items = (from ≤ end) × AreEnds end ends items
 -- the rows up to the ends, and what is behind the last
 abbrev pub rows_of : {T : Type 0} → List ℕ → List T → RowList T
 rows_of ends items = record { rows = rows_to 0 ends items; last = last_after 0 ends items }
+
+-- the row at the place; empty where there is none
+abbrev pub row_at : {T : Type 0} → List (List T) → ℕ → List T
+row_at rows k = slice_index_or rows k []

@@ -2,5 +2,8 @@
 #![tactic(auto)]
 
 mod rows;
+mod sums;
+mod turned;
 
 pub use rows::Rows;
+pub use turned::turn;

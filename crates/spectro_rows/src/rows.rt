@@ -1,5 +1,5 @@
 ghost use Rattle.std.specs.Prelude.{◌≡◌, ◌<◌, [], ◌∷◌, ◌++◌, length, slice_get, Some, OnOk, OnErr};
-ghost use Rattle.spectro_rows.specs.Rows.{start_of};
+ghost use Rattle.spectro_rows.specs.Rows.{start_of, rows_of, AreEnds};
 
 use std::alloc::{AllocError, Global};
 use std::marker::Model;
@@ -30,6 +30,14 @@ impl<T: Copy> Rows<T> {
             items: Vec::new(alloc),
             ends: Vec::new(alloc),
         }
+    }
+
+    /// The rows up to each of the ends.
+    pub(crate) fn up_to(ends: Vec<usize>, items: Vec<T>) -> Rows<T>
+        requires { AreEnds 0 ends.items items.items }
+        ensures { result ≡ rows_of ends.items items.items }
+    {
+        Rows { items, ends }
     }
 
     /// How many rows are closed.
