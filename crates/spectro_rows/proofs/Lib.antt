@@ -3,3 +3,4 @@ pub mod FilledParts
 pub mod PartedRows
 pub mod Stamps
 pub mod TurnedRows
+pub mod GroupedItems
