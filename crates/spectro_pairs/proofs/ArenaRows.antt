@@ -16,7 +16,8 @@ use Rattle.spectro_game.specs.Reached.{StandsAt}
 use Rattle.spectro_theory.proofs.Places.{stands-below, stands-map, stands-one, stands-some}
 use Rattle.spectro_theory.proofs.FollowerPlaces.{length-subsets, stands-observed, stands-subset, stands-swap, swap-at}
 use Rattle.spectro_lts.specs.Labels.{labels_of}
-use Rattle.spectro_pairs.specs.Explored.{Explored, IsExploredFrom, observed_labels, row_at}
+use Rattle.spectro_rows.specs.Rows.{row_at}
+use Rattle.spectro_pairs.specs.Explored.{Explored, IsExploredFrom, observed_labels}
 use Rattle.spectro_pairs.specs.Growth.{Name}
 use Rattle.spectro_pairs.specs.Interned.{IsPairAt}
 use Rattle.spectro_pairs.specs.Arenas.{set_at, IsObservation, IsSubset, IsSwap}

@@ -15,7 +15,7 @@ use Rattle.spectro_pairs.specs.Explored.{IsExploredFrom, IsPairWithin, NameRows,
 use Rattle.spectro_pairs.specs.Growth.{AreExplored, ArePosts, HasExpanded, HasStarted, IsPastFollowers, IsPastWith}
 use Rattle.spectro_pairs.specs.Interned.{Interned}
 use Rattle.spectro_pairs.specs.Limits.{IsPastLimit}
-use Rattle.spectro_pairs.specs.Rows.{RowList}
+use Rattle.spectro_rows.specs.Rows.{RowList}
 use Rattle.spectro_pairs.proofs.Growths.{past-above}
 use Rattle.spectro_pairs.proofs.NamedRows.{first-more, length-named_rows, rows-below, rows-grow, rows-more}
 
@@ -45,10 +45,10 @@ module _ (system : System) (starts : List (ℕ × ℕ)) where
     reached =
         subst (λ l. AreReachedPairsTo system (start_pairs starts) l 0)
         (sym (has.pairs ∙ ap (λ (p : Interned). with_all is_same_pair p.pairs (map start_pair starts)) none)) started;
-    followers_closed = ap (λ (r : RowList). r.last) (has.followers ∙ no_followers);
-    followers = ap (λ (r : RowList). map (map (slice_get b.pairs.pairs)) r.rows) (has.followers ∙ no_followers);
-    labels_closed = ap (λ (r : RowList). r.last) (has.labels ∙ no_labels);
-    labels = ap (λ (r : RowList). map (map (slice_get (labels_of system.steps))) r.rows) (has.labels ∙ no_labels);
+    followers_closed = ap (λ (r : RowList ℕ). r.last) (has.followers ∙ no_followers);
+    followers = ap (λ (r : RowList ℕ). map (map (slice_get b.pairs.pairs)) r.rows) (has.followers ∙ no_followers);
+    labels_closed = ap (λ (r : RowList ℕ). r.last) (has.labels ∙ no_labels);
+    labels = ap (λ (r : RowList ℕ). map (map (slice_get (labels_of system.steps))) r.rows) (has.labels ∙ no_labels);
   }
 
   -- ---- one pair more
@@ -63,17 +63,17 @@ module _ (system : System) (starts : List (ℕ × ℕ)) where
         reached =
             subst (λ l. AreReachedPairsTo system (start_pairs starts) l (k + 1)) (sym has.pairs)
             (reaching-goes_on system (start_pairs starts) a.pairs.pairs k has.x explored.reached has.here);
-        followers_closed = ap (λ (r : RowList). r.last) has.rows;
+        followers_closed = ap (λ (r : RowList ℕ). r.last) has.rows;
         followers =
-            subst (λ (r : RowList). NameRows b.pairs.pairs r.rows (map (followers system) (take (k + 1) b.pairs.pairs))) (sym has.rows)
+            subst (λ (r : RowList ℕ). NameRows b.pairs.pairs r.rows (map (followers system) (take (k + 1) b.pairs.pairs))) (sym has.rows)
             (subst (NameRows b.pairs.pairs (a.followers.rows ++ has.numbers ∷ []))
             (sym (first-more (followers system) a.pairs.pairs grown.0 b.pairs.pairs k has.x has.here longer))
             (rows-more b.pairs.pairs a.followers.rows (map (followers system) (take k a.pairs.pairs)) has.numbers (followers system has.x)
             (subst (λ l. NameRows l a.followers.rows (map (followers system) (take k a.pairs.pairs))) (sym longer)
             (rows-grow a.pairs.pairs grown.0 a.followers.rows (map (followers system) (take k a.pairs.pairs)) explored.followers)) has.named));
-        labels_closed = ap (λ (r : RowList). r.last) has.label_rows;
+        labels_closed = ap (λ (r : RowList ℕ). r.last) has.label_rows;
         labels =
-            subst (λ (r : RowList). NameRows (labels_of system.steps) r.rows (map (observed_labels system) (take (k + 1) b.pairs.pairs))) (sym has.label_rows)
+            subst (λ (r : RowList ℕ). NameRows (labels_of system.steps) r.rows (map (observed_labels system) (take (k + 1) b.pairs.pairs))) (sym has.label_rows)
             (subst (NameRows (labels_of system.steps) (a.labels.rows ++ has.label_nos ∷ []))
             (sym (first-more (observed_labels system) a.pairs.pairs grown.0 b.pairs.pairs k has.x has.here longer))
             (rows-more (labels_of system.steps) a.labels.rows (map (observed_labels system) (take k a.pairs.pairs)) has.label_nos

@@ -11,27 +11,27 @@ use Rattle.spectro_pairs.specs.declared.exploration.Exploration.{Exploration}
 use Rattle.spectro_pairs.specs.declared.known.Known.{Known}
 use Rattle.spectro_pairs.specs.Interned.{Interned}
 use Rattle.spectro_pairs.specs.Limits.{IsPastLimit}
-use Rattle.spectro_pairs.specs.Rows.{RowList}
+use Rattle.spectro_rows.specs.Rows.{RowList}
 use Rattle.spectro_pairs.specs.Growth.{HasReached, HasStarted, IsPastWith, Name}
 use Rattle.spectro_pairs.proofs.NamedRows.{name-append, name-grows}
 
 -- ---- rows
 -- the open row gets more numbers
-abbrev pub opened : RowList → List ℕ → RowList
+abbrev pub opened : RowList ℕ → List ℕ → RowList ℕ
 opened rows numbers = record rows { last = rows.last ++ numbers }
 
-opened-none : (rows : RowList) → rows ≡ opened rows []
+opened-none : (rows : RowList ℕ) → rows ≡ opened rows []
 opened-none rows = ap (λ l. record rows { last = l }) (sym (append-nil rows.last))
 
-opened-then : (a b c : RowList) (ms ns : List ℕ) → b ≡ opened a ms → c ≡ opened b ns → c ≡ opened a (ms ++ ns)
+opened-then : (a b c : RowList ℕ) (ms ns : List ℕ) → b ≡ opened a ms → c ≡ opened b ns → c ≡ opened a (ms ++ ns)
 opened-then a b c ms ns first then =
-    then ∙ ap (λ (rows : RowList). opened rows ns) first ∙ ap (λ l. record a { last = l }) (append_assoc a.last ms ns)
+    then ∙ ap (λ (rows : RowList ℕ). opened rows ns) first ∙ ap (λ l. record a { last = l }) (append_assoc a.last ms ns)
 
 -- the open row was closed behind the others
-abbrev pub closed : RowList → RowList
+abbrev pub closed : RowList ℕ → RowList ℕ
 closed rows = record { rows = rows.rows ++ rows.last ∷ []; last = [] }
 
-pub closed-opened : (a b c : RowList) (ns : List ℕ) → b ≡ opened a ns → a.last ≡ [] → c ≡ closed b → c ≡ record { rows = a.rows ++ ns ∷ []; last = [] }
+pub closed-opened : (a b c : RowList ℕ) (ns : List ℕ) → b ≡ opened a ns → a.last ≡ [] → c ≡ closed b → c ≡ record { rows = a.rows ++ ns ∷ []; last = [] }
 closed-opened a b c ns is none closes = closes ∙ ap closed is ∙ ap (λ (l : List ℕ). closed (record a { last = l ++ ns })) none
 
 -- ---- an exploration that reached pairs
@@ -47,7 +47,7 @@ has-none a = record {
   labels = opened-none a.labels;
 }
 
-pub has-one : (a : Exploration) (pairs : Interned) (followers : RowList) (k : ℕ) (x : Pair)
+pub has-one : (a : Exploration) (pairs : Interned) (followers : RowList ℕ) (k : ℕ) (x : Pair)
     → pairs ≡ record a.pairs { pairs = with_last is_same_pair a.pairs.pairs x }
     → StandsAt pairs.pairs k x → followers ≡ opened a.followers (k ∷ []) → HasReached a (record a { pairs = pairs; followers = followers }) (x ∷ []) []
 has-one a pairs followers k x grown here pushed = record {
@@ -113,7 +113,7 @@ has-kept a b posts ys ls has = record {
 }
 
 -- labels were put down
-pub has-labelled : (a b : Exploration) (labels : RowList) (ys : List Pair) (ls ms : List ℕ) → labels ≡ opened b.labels ms → HasReached a b ys ls
+pub has-labelled : (a b : Exploration) (labels : RowList ℕ) (ys : List Pair) (ls ms : List ℕ) → labels ≡ opened b.labels ms → HasReached a b ys ls
     → HasReached a (record b { labels = labels }) ys (ls ++ ms)
 has-labelled a b labels ys ls ms pushed has = record {
   states = has.states;

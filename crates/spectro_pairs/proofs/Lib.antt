@@ -2,10 +2,6 @@ pub mod Sets
 pub mod Interning
 pub mod KnownNumbers
 pub mod KeptPairs
-pub mod RowLists
-pub mod Stamps
-pub mod Transposing
-pub mod FilledRows
 pub mod NamedRows
 pub mod ArenaRows
 pub mod ObservedSteps

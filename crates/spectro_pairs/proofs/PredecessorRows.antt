@@ -13,32 +13,33 @@ use Rattle.spectro_game.specs.Pairs.{Pair, followers}
 use Rattle.spectro_game.specs.Reached.{StandsAt}
 use Rattle.spectro_theory.proofs.Ranges.{range-below, range-rises, range-stands}
 use Rattle.spectro_theory.proofs.Places.{stands-below, stands-map, stands-one, stands-some, StandsIn-member, Contains-stands}
-use Rattle.spectro_pairs.specs.Explored.{Explored, IsExploredFrom, row_at}
+use Rattle.spectro_pairs.specs.Explored.{Explored, IsExploredFrom}
 use Rattle.spectro_pairs.specs.Growth.{Name}
-use Rattle.spectro_pairs.specs.Predecessors.{stands_in, predecessors_within, predecessors_of, predecessors}
+use Rattle.spectro_rows.specs.Rows.{row_at}
+use Rattle.spectro_rows.specs.Turned.{stands_in, rows_with_within, rows_with, turned}
 use Rattle.spectro_pairs.specs.Arenas.{ArePredecessors}
 use Rattle.spectro_pairs.proofs.NamedRows.{length-named, named-place, length-named_rows}
 use Rattle.spectro_pairs.proofs.ArenaRows.{follower-row}
 
 -- the row at the place has the predecessors of that place
-pub predecessor-row : (followers rows : List (List ℕ)) (k : ℕ) (row : List ℕ) → rows ≡ predecessors followers → StandsAt rows k row → k < length followers
-    → row ≡ predecessors_of followers k
+pub predecessor-row : (followers rows : List (List ℕ)) (k : ℕ) (row : List ℕ) → rows ≡ turned followers → StandsAt rows k row → k < length followers
+    → row ≡ rows_with followers k
 predecessor-row followers rows k row is here below =
-    stands-one rows k row (predecessors_of followers k) here
-    (subst (λ rs. StandsAt rs k (predecessors_of followers k)) (sym is)
-    (stands-map (predecessors_of followers) (range_with_len 0 (length followers)) k k (range-stands (length followers) k below)))
+    stands-one rows k row (rows_with followers k) here
+    (subst (λ rs. StandsAt rs k (rows_with followers k)) (sym is)
+    (stands-map (rows_with followers) (range_with_len 0 (length followers)) k k (range-stands (length followers) k below)))
 
-pub predecessors-rise : (rows : List (List ℕ)) (n k : ℕ) → IsStrictlyIncreasing (predecessors_within rows n k)
-unfolding predecessors_within
+pub predecessors-rise : (rows : List (List ℕ)) (n k : ℕ) → IsStrictlyIncreasing (rows_with_within rows n k)
+unfolding rows_with_within
 predecessors-rise rows n k = IsStrictlyIncreasing-filter (λ j. stands_in (row_at rows j) k) (range_with_len 0 n) (range-rises n)
 
-member-within : (rows : List (List ℕ)) (n k j : ℕ) → j < n → stands_in (row_at rows j) k ≡ true → Contains (predecessors_within rows n k) j
-unfolding predecessors_within
+member-within : (rows : List (List ℕ)) (n k j : ℕ) → j < n → stands_in (row_at rows j) k ≡ true → Contains (rows_with_within rows n k) j
+unfolding rows_with_within
 member-within rows n k j below there = Contains-filter (λ i. stands_in (row_at rows i) k) (range_with_len 0 n) j
     (Contains-stands (range_with_len 0 n) j (j, range-stands n j below)) there
 
-within-member : (rows : List (List ℕ)) (n k j : ℕ) → Contains (predecessors_within rows n k) j → (j < n) × (stands_in (row_at rows j) k ≡ true)
-unfolding predecessors_within
+within-member : (rows : List (List ℕ)) (n k j : ℕ) → Contains (rows_with_within rows n k) j → (j < n) × (stands_in (row_at rows j) k ≡ true)
+unfolding rows_with_within
 within-member rows n k j member =
     let kept = Contains-filter_cases (λ i. stands_in (row_at rows i) k) (range_with_len 0 n) j member in
     (range-below n j kept.0, kept.1)
@@ -76,7 +77,7 @@ module _ (system : System) (weighing : Weighing) (starts : List (ℕ × ℕ)) (e
       (omega (arith, length-named explored.pairs row (followers system y) (row-of j y at), stands-below (followers system y) found.0 x found.1))
       (eq-eqb k (get_or row found.0 0) (sym number))
 
-  pub are_predecessors : (row : List ℕ) → row ≡ predecessors_of explored.followers k → ArePredecessors system explored.pairs k row
+  pub are_predecessors : (row : List ℕ) → row ≡ rows_with explored.followers k → ArePredecessors system explored.pairs k row
   are_predecessors row is = record {
     x = x;
     here = here;

@@ -7,7 +7,7 @@ use Rattle.spectro_game.specs.Pairs.{Pair, observed, subsets, IsFollower}
 use Rattle.spectro_game.specs.Reached.{StandsAt}
 use Rattle.spectro_lts.specs.Labels.{labels_of}
 use Rattle.spectro_pairs.specs.Explored.{Explored, IsExploredFrom, observed_labels}
-use Rattle.spectro_pairs.specs.Predecessors.{predecessors}
+use Rattle.spectro_rows.specs.Turned.{turned}
 
 -- said of each system and each weighing from which the arena was explored
 abbrev pub FromEach : Explored → (System → Weighing → Type 0) → Type 0
@@ -61,4 +61,4 @@ pub record IsArena (explored : Explored) (rows : List (List ℕ)) : Type 0 where
   pub starts : List (ℕ × ℕ)
   pub source : IsExploredFrom system weighing starts explored
   pub bound : length system.steps ≤ 2000000
-  pub preds : rows ≡ predecessors explored.followers
+  pub preds : rows ≡ turned explored.followers

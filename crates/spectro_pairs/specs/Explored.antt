@@ -1,5 +1,5 @@
 -- What an arena has, and what it was explored from.
-use Rattle.std.specs.Prelude.{ℕ, ◌≡◌, ◌<◌, List, [], ◌∷◌, map, All, Some, slice_get, slice_index_or}
+use Rattle.std.specs.Prelude.{ℕ, ◌≡◌, ◌<◌, List, [], ◌∷◌, map, All, Some, slice_get}
 use Rattle.std.specs.List.{flat_map}
 use Rattle.std.specs.List.Sorted.{IsStrictlyIncreasing}
 use Rattle.spectro_spec.specs.System.{Label, System, post}
@@ -37,10 +37,6 @@ pub record Explored : Type 0 where
   pub followers : List (List ℕ)
   pub labels : List (List ℕ)
   pub weights : List ℕ
-
--- the row at the place
-abbrev pub row_at : List (List ℕ) → ℕ → List ℕ
-row_at rows k = slice_index_or rows k []
 
 -- the numbers of each row are the places of the members of its list
 abbrev pub NameRows : {X : Type 0} → List X → List (List ℕ) → List (List X) → Type 0

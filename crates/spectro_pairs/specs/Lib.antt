@@ -2,8 +2,6 @@ pub mod Explored
 pub mod Limits
 pub mod Known
 pub mod Interned
-pub mod Rows
 pub mod Subsets
 pub mod Growth
-pub mod Predecessors
 pub mod Arenas

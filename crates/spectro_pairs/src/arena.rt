@@ -2,12 +2,12 @@ ghost use Rattle.std.specs.Prelude.{◌≡◌, ◌<◌, ◌≤◌, ◌^◌, ◌=
 ghost use Rattle.std.specs.List.Sorted.{IsStrictlyIncreasing};
 ghost use Rattle.spectro_game.specs.Pairs.{size, observed};
 ghost use Rattle.spectro_theory.specs.Reaching.{is_same_pair};
-ghost use Rattle.spectro_pairs.specs.Explored.{row_at};
+ghost use Rattle.spectro_rows.specs.Rows.{row_at};
 ghost use Rattle.spectro_pairs.specs.Interned.{IsPairAt};
 ghost use Rattle.spectro_pairs.specs.Arenas.{set_at, FromEach, IsObservation, IsSubset, IsSwap, ArePredecessors};
 
 use crate::pairs::Pairs;
-use crate::rows::Rows;
+use spectro_rows::Rows;
 use std::marker::Model;
 
 /// An observation of a pair: after a step under the label the game is at another pair.
@@ -25,10 +25,10 @@ pub struct Observation {
 #[derive(Drop)]
 pub struct Arena {
     pub(crate) pairs: Pairs,
-    pub(crate) followers: Rows,
-    pub(crate) labels: Rows,
+    pub(crate) followers: Rows<u32>,
+    pub(crate) labels: Rows<u32>,
     pub(crate) weights: Vec<u8>,
-    pub(crate) preds: Rows,
+    pub(crate) preds: Rows<u32>,
 }
 
 impl Model for Arena {

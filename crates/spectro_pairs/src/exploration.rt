@@ -1,3 +1,8 @@
+// Pairs are found breadth first (Moore, 1959): their list is the queue as well, since a pair goes last when it is first
+// reached, and is expanded when its turn comes. So their numbers are the order in which they are found, as is claimed of
+// them, and no other queue is kept. Sets go by number too, as in the subset construction (Rabin and Scott, 1959): each is
+// kept once, and a pair is two numbers. A search in depth would need a stack as deep as the arena, and a set that is kept
+// with each of its pairs would be kept many times over.
 ghost use Rattle.std.specs.Prelude.{◌≡◌, ◌<◌, ◌≤◌, [], ◌∷◌, length, map, All, IfOk, IfErr, OnOk};
 ghost use Rattle.spectro_spec.specs.System.{post};
 ghost use Rattle.spectro_game.specs.Pairs.{observed, subsets, swaps};
@@ -10,10 +15,10 @@ ghost use Rattle.spectro_pairs.specs.Growth.{pair_of, ArePosts, KeepsPosts, HasR
 use crate::ExploreError;
 use crate::known::Known;
 use crate::pairs::Pairs;
-use crate::rows::Rows;
 use crate::subsets::take_subset;
 use smallvec::SmallVec;
 use spectro_lts::Lts;
+use spectro_rows::Rows;
 use std::alloc::{AllocError, Global};
 
 /// The pairs that are reached so far, and for the first of them the numbers of the pairs that follow and of the labels of
@@ -24,8 +29,8 @@ use std::alloc::{AllocError, Global};
 #[derive(Drop)]
 pub(crate) struct Exploration {
     pub(crate) pairs: Pairs,
-    pub(crate) followers: Rows,
-    pub(crate) labels: Rows,
+    pub(crate) followers: Rows<u32>,
+    pub(crate) labels: Rows<u32>,
     posts: Known,
 }
 

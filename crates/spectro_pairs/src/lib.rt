@@ -7,9 +7,7 @@ mod exploration;
 mod known;
 mod pairs;
 mod reaching;
-mod rows;
 mod subsets;
-mod transposed;
 
 pub use arena::{Arena, Observation};
 pub use error::ExploreError;

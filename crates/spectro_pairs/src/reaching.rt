@@ -6,9 +6,9 @@ ghost use Rattle.spectro_pairs.specs.Explored.{IsExploredFrom, start_pairs};
 ghost use Rattle.spectro_pairs.specs.Limits.{IsPastLimit};
 
 use crate::exploration::Exploration;
-use crate::transposed::predecessors;
 use crate::{Arena, ExploreError};
 use spectro_lts::Lts;
+use spectro_rows::turn;
 use spectro_weights::Weights;
 use std::alloc::{AllocError, Global};
 
@@ -37,7 +37,7 @@ pub fn explore(
         k += 1;
     }
     prove!(lts.step_count() <= 2_000_000);
-    let preds = predecessors(alloc, &exploration.followers)?;
+    let preds = turn(alloc, &exploration.followers)?;
     Ok(Arena {
         pairs: exploration.pairs,
         followers: exploration.followers,

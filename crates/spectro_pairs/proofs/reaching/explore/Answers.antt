@@ -1,6 +1,7 @@
 -- The loop expands each pair once, and ends where no more are found.
-use Rattle.std.proofs.Common.{◌≡◌, ◌<◌, length, ap, ◌∙◌, arith}
+use Rattle.std.proofs.Common.{ℕ, ◌≡◌, ◌<◌, length, ap, ◌∙◌, arith}
 use Rattle.std.proofs.lemmas.Result.{err_from_is_err_and}
+use Rattle.spectro_rows.specs.Rows.{RowList}
 use Rattle.spectro_pairs.specs.Interned.{Interned}
 use Rattle.spectro_pairs.proofs.Exploring.{expanded-longer, explored-all, explored-more, explored-none, pairs-some, past-followers, past-starts, places-below, rows-all}
 use Rattle.spectro_pairs.proofs.reaching.explore.Goals as goal
@@ -63,15 +64,15 @@ loop-k-preserved c =
       limit = has.limit ∙ c.loop-k.invariant.limit;
     }
 
-pub predecessors-requires-clause-few : goal.predecessors-requires-clause-few
-predecessors-requires-clause-few c =
-    let all = explored_all (goal.at.predecessors-requires-clause-few c).After-loop-k in
+pub turn-requires-clause-few : goal.turn-requires-clause-few
+turn-requires-clause-few c =
+    let all = explored_all (goal.at.turn-requires-clause-few c).After-loop-k in
     let rows = rows-all c.args.lts.now c.args.starts.now c.loop-k.exploration c.loop-k.k c.loop-k.invariant.explored all in
     omega (arith, rows, c.len.ensures.value, c.len.ensures.half, c.len.ensures.bound)
 
-pub predecessors-requires-clause-places : goal.predecessors-requires-clause-places
-predecessors-requires-clause-places c =
-    let all = explored_all (goal.at.predecessors-requires-clause-places c).After-loop-k in
+pub turn-requires-clause-places : goal.turn-requires-clause-places
+turn-requires-clause-places c =
+    let all = explored_all (goal.at.turn-requires-clause-places c).After-loop-k in
     places-below c.args.lts.now c.args.starts.now c.loop-k.exploration c.loop-k.k c.loop-k.invariant.explored all
 
 pub invariant_of-result : goal.invariant_of-result
@@ -85,7 +86,7 @@ invariant_of-result c =
       source = explored-all c.args.lts.now c.args.starts.now c.loop-k.exploration c.loop-k.k c.loop-k.invariant.explored all c.args.weights.now
           c.in_ok-weights.weights.items c.len.ensures.within c.in_ok-weights.ensures.bytes c.in_ok-weights.ensures.proper;
       bound = omega (arith, c.step_count.ensures.value, c.step_count.ensures.bound);
-      preds = c.in_ok-preds.ensures.rows;
+      preds = ap (λ (r : RowList ℕ). r.rows) c.in_ok-preds.ensures;
     }
 
 pub returns-clause-explored : goal.returns-clause-explored

@@ -1,9 +1,0 @@
--- Without ends there is no row, and without numbers nothing is open.
-use Rattle.spectro_pairs.proofs.RowLists.{ends-nil, rows_of-nil}
-use Rattle.spectro_pairs.proofs.rows.Rows.new.Goals as goal
-
-pub invariant_of-result : goal.invariant_of-result
-invariant_of-result c = ends-nil _ _ c.new-2.ensures.items
-
-pub returns : goal.returns
-returns c = rows_of-nil _ _ c.new-2.ensures.items c.new.ensures.items
