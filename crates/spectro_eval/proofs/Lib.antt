@@ -1,5 +1,4 @@
 pub mod Bits
-pub mod Grouping
 pub mod Marking
 pub mod Meets
 pub mod Numbers

@@ -1,3 +1,9 @@
+// A sheet is evaluated from below, as model checkers label states (Clarke, Emerson and Sistla, 1986): each node gets a row
+// that says at which states its formula is true, and is written from the rows of nodes before it. So a node that formulas
+// share is evaluated once, and nothing recurs as deep as a formula is. A row has a bit for each state: a conjunction is done
+// word by word, for 64 states at once, and an observation goes through the steps under its label alone, which are grouped
+// by label first. To begin at one state and follow the formula from there would look at fewer states, but at each of them
+// again for each path that leads to it.
 ghost use Rattle.std.specs.Prelude.{◌≡◌, ℕ, ◌+◌, ◌<◌, ◌↔◌, List, [], false, length, take, slice_index_or, IfOk, IsTrue};
 ghost use Rattle.spectro_spec.specs.System.{System, IsWhole};
 ghost use Rattle.spectro_spec.specs.Formula.{Satisfies};
