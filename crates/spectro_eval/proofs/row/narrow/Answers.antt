@@ -1,10 +1,7 @@
 use Rattle.std.proofs.Common.{◌≡◌, ◌∙◌, get_or, bit_and, sym, ap, arith}
-use Rattle.spectro_eval.proofs.Meets.{signed, has_met_none, has_met_more, meets}
+use Rattle.spectro_eval.proofs.Meets.{signed, has_met_more, meets}
 use Rattle.spectro_eval.proofs.row.narrow.Goals.{then-positive, else-positive}
 use Rattle.spectro_eval.proofs.row.narrow.Goals as goal
-
-pub loop-k-init : goal.loop-k-init
-loop-k-init c = has_met_none c.args.positive c.args.part.now c.args.row.now
 
 pub loop-k-preserved : goal.loop-k-preserved
 loop-k-preserved c =

@@ -1,5 +1,4 @@
 use Rattle.std.proofs.Common.{◌∙◌, length, arith, ap}
-use Rattle.std.proofs.lemmas.List.{take_all}
 use Rattle.spectro_eval.specs.Rows.{bit_of}
 use Rattle.spectro_eval.proofs.Bits.{bit_of-ones}
 use Rattle.spectro_eval.proofs.Meets.{meets_more}
@@ -19,8 +18,3 @@ loop-clause-preserved c = λ state within.
     meets_more c.args.rows.now c.row_at-part.result.now (length c.args.row.now)
     (length c.loop-clause.row) state c.args.clauses.now c.loop-clause.clause-index _ (bit_of c.loop-clause.row state)
     (bit_of c.narrow.new.row state) c.loop-clause-test.true same c.row_at-part.ensures.value (c.loop-clause.invariant state within) step
-
-pub returns : goal.returns
-returns c =
-    let all = take_all c.loop-clause.clause-index c.args.clauses.now (omega arith) in
-    λ state within. rw all at (c.loop-clause.invariant state within)
