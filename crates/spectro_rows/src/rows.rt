@@ -1,8 +1,10 @@
-ghost use Rattle.std.specs.Prelude.{◌≡◌, ◌<◌, [], ◌∷◌, ◌++◌, length, slice_get, Some, OnOk, OnErr};
+ghost use Rattle.std.specs.Prelude.{◌≡◌, ◌+◌, ◌<◌, [], ◌∷◌, ◌++◌, length, take, slice_get, Some, OnOk, OnErr};
+ghost use Rattle.std.specs.List.{sum_by};
 ghost use Rattle.spectro_rows.specs.Rows.{start_of, rows_of, AreEnds};
 
 use std::alloc::{AllocError, Global};
 use std::marker::Model;
+use std::ops::Range;
 
 /// Rows of items, one behind the other in one vector, and behind them a row that is still open.
 #[derive(Drop)]
@@ -54,6 +56,15 @@ impl<T: Copy> Rows<T> {
     {
         let from = start(&self.ends, k);
         &self.items[from..self.ends[k]]
+    }
+
+    /// Where the row at place `k` lies among the items of all rows.
+    pub fn range(&self, k: usize) -> Range<usize>
+        requires { k < length self.now.rows }
+        ensures start { result.start ≡ sum_by length (take k self.now.rows) }
+        ensures end { result.end ≡ sum_by length (take (k + 1) self.now.rows) }
+    {
+        start(&self.ends, k)..self.ends[k]
     }
 
     /// Puts an item at the end of the open row.
