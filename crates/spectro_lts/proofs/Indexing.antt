@@ -1,5 +1,5 @@
 -- What the table of a system answers is so in the system.
-use Rattle.std.proofs.Common.{◌≡◌, ◌∙◌, ℕ, ◌+◌, ◌<◌, List, [], ◌∷◌, length, map, All, Contains, sym, ap, subst, arith, slice_get, slice_index, slice_index_or, true}
+use Rattle.std.proofs.Common.{◌≡◌, ◌∙◌, ℕ, ◌<◌, List, [], ◌∷◌, length, map, All, Contains, sym, ap, subst, arith, slice_get, slice_index, slice_index_or, true}
 use Rattle.std.specs.Prelude.{String, string_bytes, Some}
 use Rattle.std.specs.Str.{bytes_eq}
 use Rattle.std.specs.List.{IsDistinct}
@@ -16,15 +16,14 @@ use Rattle.spectro_spec.proofs.Rising.{Ascends, ascends-from_increasing}
 use Rattle.spectro_lts.specs.Indexed.{IsIndexed}
 use Rattle.spectro_lts.specs.Labels.{labels_of, label_of}
 use Rattle.spectro_lts.specs.Numbered.{label_at, steps_of}
-use Rattle.spectro_lts.specs.Tables.{successors_of, label_nos_from, AreLabelsFrom, row_length, label_no_at}
+use Rattle.spectro_lts.specs.Tables.{successors_of, label_nos_from, AreLabelsFrom, row_of, row_length, label_no_at}
 use Rattle.spectro_lts.specs.declared.step.Step.{Step}
 use Rattle.spectro_lts.specs.declared.table.Table.{Table}
 use Rattle.spectro_lts.proofs.LabelLaws.{one_number, labels_of-distinct}
 use Rattle.spectro_lts.proofs.Numbering.{label_at-numbered}
 use Rattle.spectro_lts.proofs.Ranking.{label_at-text}
-use Rattle.spectro_lts.proofs.TablesAnswers.{IsListed, listed_at, labels_are, step_of_label}
+use Rattle.spectro_lts.proofs.TablesAnswers.{step_of_label}
 use Rattle.spectro_lts.proofs.TablesCodes.{label_in_range}
-use Rattle.spectro_lts.proofs.TablesSlices.{part, length-part, part_at}
 use Rattle.spectro_lts.proofs.TablesNames.{IsNaming, successors_of-post, label_nos_from-named}
 
 -- names in the order of their ranks
@@ -96,21 +95,12 @@ module _ (states first : ℕ) (labels : List (String Global)) (steps : List Step
     label_nos-labels = ap (λ name. map name label_nos) same_names ∙ by_name
 
   module _ (s : ℕ) (below : s < states) where
-    abbrev row : List ℕ
-    row = part table.labels.items (slice_index table.first.items s) (slice_index table.first.items (s + 1))
-
-    listed : IsListed indexed.ranks steps table s (slice_index table.first.items s) (slice_index table.first.items (s + 1))
-    listed = listed_at states indexed.ranks steps table s below indexed.has
-
-    row_are : AreLabelsFrom indexed.ranks steps s row
-    row_are = labels_are states indexed.ranks steps table s (slice_index table.first.items s) (slice_index table.first.items (s + 1)) indexed.has listed
-
-    length-row : length row ≡ row_length table s
-    length-row = length-part table.labels.items (slice_index table.first.items s) (slice_index table.first.items (s + 1)) listed.up listed.within
+    row_are : AreLabelsFrom indexed.ranks steps s (row_of table s)
+    row_are = indexed.has.labels s below
 
     -- s has as many labels in the table as in the system
     pub row_length-labels : length (labels_from (steps_of labels steps) s) ≡ row_length table s
-    row_length-labels = sym (ap length (label_nos-labels s row row_are)) ∙ length-map row (label_of (steps_of labels steps)) ∙ length-row
+    row_length-labels = sym (ap length (label_nos-labels s (row_of table s) row_are)) ∙ length-map (row_of table s) (label_of (steps_of labels steps))
 
     -- and at each place the same label
     pub label_at-row : (i : ℕ) (label : Label) → slice_get (labels_from (steps_of labels steps) s) i ≡ Some label
@@ -118,14 +108,9 @@ module _ (states first : ℕ) (labels : List (String Global)) (steps : List Step
     label_at-row i label here =
         let texts = steps_of labels steps in
         let within : i < row_length table s = omega (arith, slice_get_within (labels_from texts s) i label here, row_length-labels) in
-        let read : slice_index row i ≡ label_no_at table s i = part_at table.labels.items (slice_index table.first.items s)
-        (slice_index table.first.items (s + 1)) i within in
-        let in_row : i < length row = omega (arith, within, length-row) in
-        let named : slice_index_or (map (label_of texts) row) i [] ≡ label = ap (λ xs. slice_index_or xs i []) (label_nos-labels s row row_are)
-        ∙ get_or_from_slice_get (labels_from texts s) i label [] here in (
-          subst (λ label_no. label_no < length (labels_of texts)) read (label_nos-in_range s row row_are i 0 in_row),
-          ap (label_of texts) (sym read) ∙ sym (get_or-map (label_of texts) row i 0 [] in_row) ∙ named,
-        )
+        let named : slice_index_or (map (label_of texts) (row_of table s)) i [] ≡ label =
+        ap (λ xs. slice_index_or xs i []) (label_nos-labels s (row_of table s) row_are) ∙ get_or_from_slice_get (labels_from texts s) i label [] here in
+        (label_nos-in_range s (row_of table s) row_are i 0 within, sym (get_or-map (label_of texts) (row_of table s) i 0 [] within) ∙ named)
 
     -- the targets of its row are the successors under it
     pub row-post : (i : ℕ) (label : Label) → slice_get (labels_from (steps_of labels steps) s) i ≡ Some label

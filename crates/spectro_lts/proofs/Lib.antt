@@ -4,7 +4,10 @@ pub mod Joining
 pub mod Indexes
 pub mod Ranking
 pub mod TablesCodes
-pub mod TablesSlices
+pub mod Entries
+pub mod Rests
+pub mod RowsOfKeys
+pub mod RowsOfLabels
 pub mod TablesAnswers
 pub mod TablesNames
 pub mod Sorting
