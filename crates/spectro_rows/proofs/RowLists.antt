@@ -50,7 +50,8 @@ sum_by-rows_to from (end ∷ ends) items (suc k) (up, rest) below =
     omega (arith, sum_by-cons length row (take k (rows_to end ends items)), size, up, sum_by-rows_to end ends items k rest (omega arith))
 
 -- a row of these lies between the items before it and those behind
-pub items_before : {T : Type 0} (ends : List ℕ) (items : List T) (rows : List (List T)) (k : ℕ) → rows_to 0 ends items ≡ rows → AreEnds 0 ends items → k < length ends
+pub items_before : {T : Type 0} (ends : List ℕ) (items : List T) (rows : List (List T)) (k : ℕ)
+    → rows_to 0 ends items ≡ rows → AreEnds 0 ends items → k < length ends
     → (sum_by length (take k rows) ≡ start_of 0 ends k) × (sum_by length (take (k + 1) rows) ≡ get_or ends k 0)
 items_before ends items rows k is are below =
     let start = sum_by-rows_to 0 ends items k are (omega arith) in
