@@ -32,33 +32,6 @@ stands-rows_to from [] items k below = absurd (omega arith)
 stands-rows_to from (end ∷ ends) items zero below = refl
 stands-rows_to from (end ∷ ends) items (suc k) below = stands-rows_to end ends items k (omega arith)
 
-from-within : {T : Type 0} (from : ℕ) (ends : List ℕ) (items : List T) → AreEnds from ends items → from ≤ length items
-unfolding AreEnds
-from-within from [] items here = here
-from-within from (end ∷ ends) items (up, rest) = omega (arith, from-within end ends items rest)
-
--- it begins behind all the items of the rows before it
-pub sum_by-rows_to : {T : Type 0} (from : ℕ) (ends : List ℕ) (items : List T) (k : ℕ) → AreEnds from ends items → k ≤ length ends
-    → from + sum_by length (take k (rows_to from ends items)) ≡ start_of from ends k
-unfolding AreEnds rows_to start_of
-sum_by-rows_to from ends items zero are below = omega arith
-sum_by-rows_to from [] items (suc k) are below = absurd (omega arith)
-sum_by-rows_to from (end ∷ ends) items (suc k) (up, rest) below =
-    let row = take (end - from) (drop from items) in
-    let size : length row ≡ end - from = length-take-le (end - from) (drop from items)
-    (omega (arith, length-drop from items, from-within end ends items rest)) in
-    omega (arith, sum_by-cons length row (take k (rows_to end ends items)), size, up, sum_by-rows_to end ends items k rest (omega arith))
-
--- a row of these lies between the items before it and those behind
-pub items_before : {T : Type 0} (ends : List ℕ) (items : List T) (rows : List (List T)) (k : ℕ)
-    → rows_to 0 ends items ≡ rows → AreEnds 0 ends items → k < length ends
-    → (sum_by length (take k rows) ≡ start_of 0 ends k) × (sum_by length (take (k + 1) rows) ≡ get_or ends k 0)
-items_before ends items rows k is are below =
-    let start = sum_by-rows_to 0 ends items k are (omega arith) in
-    let end = sum_by-rows_to 0 ends items (k + 1) are (omega arith) in
-    let same = λ (n : ℕ). ap (λ rs. sum_by length (take n rs)) is in
-    (omega (arith, start, same k), omega (arith, end, same (k + 1), start_of-later 0 ends (k + 1) k (omega arith) below))
-
 -- the same, where the rows, the items and the ends of the row go by other names
 pub row_read : {T : Type 0} (ends : List ℕ) (items flat : List T) (rows : List (List T)) (k from to : ℕ)
     → rows_to 0 ends items ≡ rows → k < length ends → from ≡ start_of 0 ends k → to ≡ get_or ends k 0 → flat ≡ items
@@ -72,6 +45,11 @@ pub row_number_below : {T : Type 0} (ends : List ℕ) (items : List T) (rows : L
     → k < length ends
 row_number_below ends items rows k is below = omega (arith, length-rows_to 0 ends items, ap length is)
 
+from-within : {T : Type 0} (from : ℕ) (ends : List ℕ) (items : List T) → AreEnds from ends items → from ≤ length items
+unfolding AreEnds
+from-within from [] items here = here
+from-within from (end ∷ ends) items (up, rest) = omega (arith, from-within end ends items rest)
+
 -- a row begins before it ends, and ends within the items
 pub row-within : {T : Type 0} (from : ℕ) (ends : List ℕ) (items : List T) (k : ℕ) → AreEnds from ends items → k < length ends
     → (start_of from ends k ≤ get_or ends k 0) × (get_or ends k 0 ≤ length items)
@@ -79,6 +57,28 @@ unfolding AreEnds start_of
 row-within from [] items k are below = absurd (omega arith)
 row-within from (end ∷ ends) items zero (up, rest) below = (up, from-within end ends items rest)
 row-within from (end ∷ ends) items (suc k) (up, rest) below = row-within end ends items k rest (omega arith)
+
+-- a row begins behind all the items of the rows before it
+pub sum_by-rows_to : {T : Type 0} (from : ℕ) (ends : List ℕ) (items : List T) (k : ℕ) → AreEnds from ends items → k ≤ length ends
+    → from + sum_by length (take k (rows_to from ends items)) ≡ start_of from ends k
+unfolding AreEnds rows_to start_of
+sum_by-rows_to from ends items zero are below = omega arith
+sum_by-rows_to from [] items (suc k) are below = absurd (omega arith)
+sum_by-rows_to from (end ∷ ends) items (suc k) (up, rest) below =
+    let row = take (end - from) (drop from items) in
+    let size : length row ≡ end - from = length-take-le (end - from) (drop from items)
+    (omega (arith, length-drop from items, from-within end ends items rest)) in
+    omega (arith, sum_by-cons length row (take k (rows_to end ends items)), size, up, sum_by-rows_to end ends items k rest (omega arith))
+
+-- so the items up to where a row begins are those of the rows before it, and those up to its end are its own besides
+pub items_before : {T : Type 0} (ends : List ℕ) (items : List T) (rows : List (List T)) (k : ℕ)
+    → rows_to 0 ends items ≡ rows → AreEnds 0 ends items → k < length ends
+    → (sum_by length (take k rows) ≡ start_of 0 ends k) × (sum_by length (take (k + 1) rows) ≡ get_or ends k 0)
+items_before ends items rows k is are below =
+    let start = sum_by-rows_to 0 ends items k are (omega arith) in
+    let end = sum_by-rows_to 0 ends items (k + 1) are (omega arith) in
+    let same = λ (n : ℕ). ap (λ rs. sum_by length (take n rs)) is in
+    (omega (arith, start, same k), omega (arith, end, same (k + 1), start_of-later 0 ends (k + 1) k (omega arith) below))
 
 -- ---- more items
 pub ends-more : {T : Type 0} (from : ℕ) (ends : List ℕ) (items more : List T) → AreEnds from ends items → AreEnds from ends (items ++ more)
