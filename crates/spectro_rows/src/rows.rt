@@ -1,4 +1,4 @@
-ghost use Rattle.std.specs.Prelude.{◌≡◌, ◌+◌, ◌<◌, [], ◌∷◌, ◌++◌, length, take, slice_get, Some, OnOk, OnErr};
+ghost use Rattle.std.specs.Prelude.{◌≡◌, ◌+◌, ◌<◌, [], ◌∷◌, ◌++◌, length, take, slice_get, Some, IfOk, OnOk, OnErr};
 ghost use Rattle.std.specs.List.{sum_by};
 ghost use Rattle.spectro_rows.specs.Rows.{start_of, rows_of, AreEnds};
 
@@ -32,6 +32,16 @@ impl<T: Copy> Rows<T> {
             items: Vec::new(alloc),
             ends: Vec::new(alloc),
         }
+    }
+
+    /// The same, with room for so many rows and items.
+    pub fn with_capacity(alloc: Global, rows: usize, items: usize) -> Result<Rows<T>, AllocError>
+        ensures { IfOk result (λ empty. empty ≡ record { rows = []; last = [] }) }
+    {
+        Ok(Rows {
+            items: Vec::with_capacity(alloc, items)?,
+            ends: Vec::with_capacity(alloc, rows)?,
+        })
     }
 
     /// The rows up to each of the ends.
