@@ -8,6 +8,7 @@ use Rattle.spectro_spec.specs.System as spec
 use Rattle.spectro_spec.specs.System.{IsLabel}
 use Rattle.spectro_lts.specs.Labels.{labels_of}
 use Rattle.spectro_lts.specs.declared.step.Step.{Step}
+use Rattle.spectro_lts.specs.declared.draft.TheConstants.{MAX_LABELS, MAX_STATES, MAX_STEPS}
 
 -- the label of this number
 abbrev pub label_at : List (String Global) → ℕ → spec.Label
@@ -22,10 +23,10 @@ steps_of labels steps = map (labelled labels) steps
 
 -- the states are in range, each step has a label, and the labels are those of the steps, none of them too long
 pub record IsNumbered (states first : ℕ) (labels : List (String Global)) (steps : List Step) : Type 0 where
-  pub few_states : states ≤ 131072
+  pub few_states : states ≤ MAX_STATES
   pub initial : first < states
-  pub few_steps : length steps ≤ 2000000
-  pub few_labels : length labels ≤ 131072
+  pub few_steps : length steps ≤ MAX_STEPS
+  pub few_labels : length labels ≤ MAX_LABELS
   pub sources : All (λ step. step.from < states) steps
   pub targets : All (λ step. step.to < states) steps
   pub numbers : All (λ step. step.label < length labels) steps

@@ -13,6 +13,15 @@ use indexmap::IndexSet;
 use std::alloc::{AllocError, Global};
 use std::marker::Model;
 
+/// How many states a system has at most: two systems stand side by side, each with half as many.
+pub const MAX_STATES: u32 = 131_072;
+
+/// How many steps a system has at most.
+pub const MAX_STEPS: u32 = 2_000_000;
+
+/// How many labels a system has at most.
+pub const MAX_LABELS: u32 = 131_072;
+
 /// A system to which steps are added one by one.
 #[derive(Drop)]
 pub struct Draft {
@@ -36,7 +45,7 @@ impl Model for Draft {
 impl Draft {
     /// A draft without steps.
     pub fn new(alloc: Global, states: u32, initial: u32) -> Result<Draft, AllocError>
-        requires few { states ≤ 131072 }
+        requires few { states ≤ MAX_STATES }
         requires in_range { initial < states }
         ensures { IfOk result (λ draft. draft ≡ record { states = states; initial = initial; steps = [] }) }
     {
@@ -52,8 +61,8 @@ impl Draft {
     pub fn add(&mut self, from: u32, label: &str, to: u32) -> Result<(), AllocError>
         requires from_in_range { from < self.old.states }
         requires to_in_range { to < self.old.states }
-        requires few_steps { length self.old.steps < 2000000 }
-        requires few_labels { length (labels_of self.old.steps) < 131072 }
+        requires few_steps { length self.old.steps < MAX_STEPS }
+        requires few_labels { length (labels_of self.old.steps) < MAX_LABELS }
         requires label { IsLabel label.now }
         ensures ok { OnOk result (self.new ≡ record self.old { steps = self.old.steps ++ record { source = from; label = label.now; target = to } ∷ [] }) }
         ensures err { OnErr result (self.new ≡ self.old) }
@@ -65,8 +74,8 @@ impl Draft {
     pub(crate) fn put(&mut self, from: u32, label: &str, to: u32) -> Result<(), AllocError>
         requires from_in_range { from < self.old.states }
         requires to_in_range { to < self.old.states }
-        requires few_steps { length self.old.steps < 2000000 }
-        requires few_labels { length (labels_of (self.old.steps ++ record { source = from; label = label.now; target = to } ∷ [])) ≤ 131072 }
+        requires few_steps { length self.old.steps < MAX_STEPS }
+        requires few_labels { length (labels_of (self.old.steps ++ record { source = from; label = label.now; target = to } ∷ [])) ≤ MAX_LABELS }
         requires label { IsLabel label.now }
         ensures ok { OnOk result (self.new ≡ record self.old { steps = self.old.steps ++ record { source = from; label = label.now; target = to } ∷ [] }) }
         ensures err { OnErr result (self.new ≡ self.old) }
@@ -81,7 +90,7 @@ impl Draft {
     /// How many steps there are, repeats counted.
     pub fn step_count(&self) -> u32
         ensures value { result ≡ length self.now.steps }
-        ensures bound { result ≤ 2000000 }
+        ensures bound { result ≤ MAX_STEPS }
     {
         self.steps.len() as u32
     }
@@ -89,7 +98,7 @@ impl Draft {
     /// How many labels there are.
     pub fn label_count(&self) -> u32
         ensures value { result ≡ length (labels_of self.now.steps) }
-        ensures bound { result ≤ 131072 }
+        ensures bound { result ≤ MAX_LABELS }
     {
         self.labels.len() as u32
     }
@@ -124,7 +133,7 @@ fn number_label(
     labels: &mut IndexSet<String>,
     label: &str,
 ) -> Result<u32, AllocError>
-    requires { length (insert_key bytes_eq (map string_bytes labels.old.keys) label.now) ≤ 131072 }
+    requires { length (insert_key bytes_eq (map string_bytes labels.old.keys) label.now) ≤ MAX_LABELS }
     ensures ok { IfOk result (GivesNumber labels.old.keys label.now labels.new.keys) }
     ensures err { OnErr result (labels.new.keys ≡ labels.old.keys) }
 {

@@ -10,7 +10,7 @@ mod step;
 mod successors;
 mod table;
 
-pub use draft::Draft;
+pub use draft::{Draft, MAX_LABELS, MAX_STATES, MAX_STEPS};
 pub use lts::Lts;
 pub use state_set::StateSet;
 pub use step::Step;

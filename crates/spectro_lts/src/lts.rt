@@ -2,6 +2,7 @@ ghost use Rattle.std.specs.Prelude.{◌≡◌, ◌<◌, ◌≤◌, length, posit
 ghost use Rattle.std.specs.Str.{bytes_eq};
 ghost use Rattle.spectro_spec.specs.System.{IsWhole, IsLabel};
 ghost use Rattle.spectro_lts.specs.Labels.{labels_of, IsStepAt};
+ghost use Rattle.spectro_lts.specs.declared.draft.TheConstants.{MAX_LABELS, MAX_STATES, MAX_STEPS};
 
 use crate::Step;
 use crate::table::Table;
@@ -34,7 +35,7 @@ impl Lts {
     /// How many states there are. They are numbered from 0.
     pub fn states(&self) -> u32
         ensures value { result ≡ self.now.states }
-        ensures bound { result ≤ 131072 }
+        ensures bound { result ≤ MAX_STATES }
         ensures whole { IsWhole self.now }
     {
         self.states
@@ -51,7 +52,7 @@ impl Lts {
     /// How many steps there are, repeats counted.
     pub fn step_count(&self) -> u32
         ensures value { result ≡ length self.now.steps }
-        ensures bound { result ≤ 2000000 }
+        ensures bound { result ≤ MAX_STEPS }
     {
         self.steps.len() as u32
     }
@@ -70,7 +71,7 @@ impl Lts {
     /// How many labels there are.
     pub fn label_count(&self) -> u32
         ensures value { result ≡ length (labels_of self.now.steps) }
-        ensures bound { result ≤ 131072 }
+        ensures bound { result ≤ MAX_LABELS }
     {
         self.labels.len() as u32
     }

@@ -1,12 +1,13 @@
 ghost use Rattle.std.specs.Prelude.{◌≤◌, length, map, string_bytes, IfOk};
 ghost use Rattle.spectro_lts.specs.Ranks.{texts_of, AreSorted, AreRanks};
+ghost use Rattle.spectro_lts.specs.declared.draft.TheConstants.{MAX_LABELS};
 
 use indexmap::IndexSet;
 use std::alloc::{AllocError, Global};
 
 /// The place of each label in the order of bytes.
 pub(crate) fn ranks(alloc: Global, labels: &IndexSet<String>) -> Result<Vec<u32>, AllocError>
-    requires { length labels.now.keys ≤ 131072 }
+    requires { length labels.now.keys ≤ MAX_LABELS }
     ensures { IfOk result (λ ranks. AreRanks labels.now.keys ranks.items) }
 {
     let sorted = sorted_labels(alloc, labels)?;

@@ -8,6 +8,7 @@ use Rattle.spectro_game.specs.Reached.{StandsAt}
 use Rattle.spectro_lts.specs.Labels.{labels_of}
 use Rattle.spectro_pairs.specs.Explored.{Explored, IsExploredFrom, observed_labels}
 use Rattle.spectro_rows.specs.Turned.{turned}
+use Rattle.spectro_lts.specs.declared.draft.TheConstants.{MAX_STEPS}
 
 -- said of each system and each weighing from which the arena was explored
 abbrev pub FromEach : Explored → (System → Weighing → Type 0) → Type 0
@@ -60,5 +61,5 @@ pub record IsArena (explored : Explored) (rows : List (List ℕ)) : Type 0 where
   pub weighing : Weighing
   pub starts : List (ℕ × ℕ)
   pub source : IsExploredFrom system weighing starts explored
-  pub bound : length system.steps ≤ 2000000
+  pub bound : length system.steps ≤ MAX_STEPS
   pub preds : rows ≡ turned explored.followers

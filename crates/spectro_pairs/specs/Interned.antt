@@ -8,6 +8,7 @@ use Rattle.spectro_pairs.specs.Explored.{IsSetWithin}
 use Rattle.spectro_pairs.specs.Known.{Knows}
 use Rattle.spectro_pairs.specs.declared.known.Known.{Known}
 use Rattle.spectro_pairs.specs.declared.pairs.Key.{Key}
+use Rattle.spectro_pairs.specs.declared.pairs.TheConstants.{MAX_LIMIT}
 
 -- sets and pairs in the order of their numbers, the number of states, and the greatest size
 pub record Interned : Type 0 where
@@ -38,7 +39,7 @@ pub record AreInterned (states limit size_of_pairs : ℕ) (known : Known) (sets 
   pub apart : StandOnce keys
   pub sized : size_of_pairs ≡ size (pairs_of (lists_of sets) keys)
   pub small : size_of_pairs ≤ limit
-  pub bound : limit ≤ 1000000
+  pub bound : limit ≤ MAX_LIMIT
   pub few : length (lists_of sets) ≤ 4294967295
   pub wide : known.width ≡ states
   pub exact : (set state n : ℕ) → Knows known set state n → StandsAt keys n (record { state = state; set = set })

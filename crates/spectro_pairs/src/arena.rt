@@ -1,10 +1,11 @@
-ghost use Rattle.std.specs.Prelude.{◌≡◌, ◌<◌, ◌≤◌, ◌^◌, ◌==◌, not, length, filter, take, position, All};
+ghost use Rattle.std.specs.Prelude.{◌/◌, ◌≡◌, ◌<◌, ◌≤◌, ◌^◌, ◌==◌, not, length, filter, take, position, All};
 ghost use Rattle.std.specs.List.Sorted.{IsStrictlyIncreasing};
 ghost use Rattle.spectro_game.specs.Pairs.{size, observed};
 ghost use Rattle.spectro_theory.specs.Reaching.{is_same_pair};
 ghost use Rattle.spectro_rows.specs.Rows.{row_at};
 ghost use Rattle.spectro_pairs.specs.Interned.{IsPairAt};
 ghost use Rattle.spectro_pairs.specs.Arenas.{set_at, FromEach, IsObservation, IsSubset, IsSwap, ArePredecessors};
+ghost use Rattle.spectro_pairs.specs.declared.pairs.TheConstants.{MAX_LIMIT};
 
 use crate::pairs::Pairs;
 use spectro_rows::Rows;
@@ -47,7 +48,7 @@ impl Arena {
     pub fn pair_count(&self) -> u32
         ensures value { result ≡ length self.now.pairs }
         ensures some { 1 ≤ result }
-        ensures bound { result ≤ 500000 }
+        ensures bound { result ≤ MAX_LIMIT / 2 }
     {
         self.pairs.len()
     }
@@ -55,7 +56,7 @@ impl Arena {
     /// How many positions the game on the pairs has.
     pub fn size(&self) -> u32
         ensures value { result ≡ size self.now.pairs }
-        ensures bound { result ≤ 1000000 }
+        ensures bound { result ≤ MAX_LIMIT }
     {
         self.pairs.size()
     }

@@ -11,6 +11,7 @@ ghost use Rattle.spectro_lts.specs.Labels.{labels_of, label_of};
 ghost use Rattle.spectro_pairs.specs.Explored.{IsSetWithin, start_pair};
 ghost use Rattle.spectro_pairs.specs.Interned.{pair_at};
 ghost use Rattle.spectro_pairs.specs.Growth.{pair_of, ArePosts, KeepsPosts, HasReached, HasStarted, HasObserved, HasExpanded, IsPastWith, IsPastFollowers};
+ghost use Rattle.spectro_pairs.specs.declared.pairs.TheConstants.{MAX_LIMIT};
 
 use crate::ExploreError;
 use crate::known::Known;
@@ -37,7 +38,7 @@ pub(crate) struct Exploration {
 impl Exploration {
     /// No pairs of the system.
     pub(crate) fn new(alloc: Global, lts: &Lts, limit: u32) -> Result<Exploration, AllocError>
-        requires { limit ≤ 1000000 }
+        requires { limit ≤ MAX_LIMIT }
         ensures pairs { IfOk result (λ exploration. exploration.pairs ≡ record { states = lts.now.states; limit = limit; sets = []; pairs = [] }) }
         ensures followers { IfOk result (λ exploration. exploration.followers ≡ record { rows = []; last = [] }) }
         ensures labels { IfOk result (λ exploration. exploration.labels ≡ record { rows = []; last = [] }) }

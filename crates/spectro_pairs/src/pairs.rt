@@ -20,6 +20,9 @@ struct Key {
     set: u32,
 }
 
+/// The greatest limit of positions.
+pub const MAX_LIMIT: u32 = 1_000_000;
+
 // How many sets there may be. Each takes 24 bytes and more.
 const MAX_SETS: usize = 4_294_967_295;
 
@@ -51,7 +54,7 @@ impl Model for Pairs {
 impl Pairs {
     /// No pairs, of a system with so many states.
     pub(crate) fn new(alloc: Global, states: u32, limit: u32) -> Result<Pairs, AllocError>
-        requires { limit ≤ 1000000 }
+        requires { limit ≤ MAX_LIMIT }
         ensures { IfOk result (λ pairs. pairs ≡ record { states = states; limit = limit; sets = []; pairs = [] }) }
     {
         let known = Known::new(alloc, states, limit as usize)?;
@@ -71,7 +74,7 @@ impl Pairs {
         ensures within { All (IsPairWithin self.now.states) self.now.pairs }
         ensures half { 2 * result ≤ self.now.limit }
         ensures limit { size self.now.pairs ≤ self.now.limit }
-        ensures bound { self.now.limit ≤ 1000000 }
+        ensures bound { self.now.limit ≤ MAX_LIMIT }
     {
         self.keys.len() as u32
     }
@@ -80,7 +83,7 @@ impl Pairs {
     pub(crate) fn size(&self) -> u32
         ensures value { result ≡ size self.now.pairs }
         ensures limit { result ≤ self.now.limit }
-        ensures bound { self.now.limit ≤ 1000000 }
+        ensures bound { self.now.limit ≤ MAX_LIMIT }
     {
         self.size
     }

@@ -4,10 +4,11 @@ ghost use Rattle.spectro_game.specs.Pairs.{Pair, AreReachedPairs, size};
 ghost use Rattle.spectro_lts.specs.Labels.{labels_of};
 ghost use Rattle.spectro_pairs.specs.Explored.{IsExploredFrom, start_pairs};
 ghost use Rattle.spectro_pairs.specs.Limits.{IsPastLimit};
+ghost use Rattle.spectro_pairs.specs.declared.pairs.TheConstants.{MAX_LIMIT};
 
 use crate::exploration::Exploration;
 use crate::{Arena, ExploreError};
-use spectro_lts::Lts;
+use spectro_lts::{Lts, MAX_STEPS};
 use spectro_rows::turn;
 use spectro_weights::Weights;
 use std::alloc::{AllocError, Global};
@@ -23,7 +24,7 @@ pub fn explore(
 ) -> Result<Arena, ExploreError>
     requires some { starts.now ≢ [] }
     requires in_range { All (λ start. (start.0 < lts.now.states) × (start.1 < lts.now.states)) starts.now }
-    requires bound { limit ≤ 1000000 }
+    requires bound { limit ≤ MAX_LIMIT }
     ensures explored { IfOk result (λ arena. IsExploredFrom lts.now weights.now starts.now arena) }
     ensures size { IfOk result (λ arena. size arena.pairs ≤ limit) }
     ensures limit { IfErr result (λ e. (pairs : List Pair) → AreReachedPairs lts.now (start_pairs starts.now) pairs → IsPastLimit e limit (size pairs)) }
@@ -36,7 +37,8 @@ pub fn explore(
         exploration.expand(alloc, lts, k)?;
         k += 1;
     }
-    prove!(lts.step_count() <= 2_000_000);
+    // An arena knows that its system has no more steps, since no row of it is longer.
+    prove!(lts.step_count() <= MAX_STEPS);
     let preds = turn(alloc, &exploration.followers)?;
     Ok(Arena {
         pairs: exploration.pairs,
