@@ -65,7 +65,8 @@ pub(crate) fn write_observation(
 /// others. The rows of the nodes are as long as this one, and stand one behind the other.
 pub(crate) fn write_conjunction(rows: &[u64], clauses: &[Clause], row: &mut [u64])
     requires { All (λ clause. (clause.node + 1) * length row.old ≤ length rows.now) clauses.now }
-    ensures { (state : ℕ) → state / 64 < length row.old → IsTrue (bit_of row.new state) ↔ All (λ clause. bit_of (drop (clause.node * length row.old) rows.now) state ≡ clause.positive) clauses.now }
+    ensures { (state : ℕ) → state / 64 < length row.old → IsTrue (bit_of row.new state)
+        ↔ All (λ clause. bit_of (drop (clause.node * length row.old) rows.now) state ≡ clause.positive) clauses.now }
 {
     row.fill(u64::MAX);
     for clause in clauses {

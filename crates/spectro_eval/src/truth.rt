@@ -58,7 +58,8 @@ impl Truth {
         requires node { node < length self.now }
         requires state { state < length (slice_index_or self.now node []) }
         ensures value { result ≡ slice_index_or (slice_index_or self.now node []) state false }
-        ensures truth { (system : System) (nodes : List SheetNode) → AreSheetTruths system nodes self.now → IsTrue result ↔ Satisfies system state (unfolded nodes node) }
+        ensures truth { (system : System) (nodes : List SheetNode) → AreSheetTruths system nodes self.now
+            → IsTrue result ↔ Satisfies system state (unfolded nodes node) }
     {
         bit_of(row_at(&self.rows, words_of(self.states), node), state)
     }

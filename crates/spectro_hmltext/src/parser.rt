@@ -1,9 +1,8 @@
-//! Recursive descent, as in Wirth's compilers: a function for each part of the grammar, which looks at the next token and
-//! never goes back. Formulas stand in one another 256 deep at most, so the functions call each other no deeper. Each
-//! occurrence of a formula becomes a node behind those of its parts: nothing is looked up, and the last node is the whole.
-//! A stack of its own in place of calls would go deeper than the format allows, and contracts would speak of stacks; here
-//! the contract of a function is the grammar's word for its part, and the first fault of a part is one of the whole.
-
+// Recursive descent, as in Wirth's compilers: a function for each part of the grammar, which looks at the next token and
+// never goes back. Formulas stand in one another 256 deep at most, so the functions call each other no deeper. Each
+// occurrence of a formula becomes a node behind those of its parts: nothing is looked up, and the last node is the whole.
+// A stack of its own in place of calls would go deeper than the format allows, and contracts would speak of stacks; here
+// the contract of a function is the grammar's word for its part, and the first fault of a part is one of the whole.
 ghost use Rattle.std.specs.Prelude.{◌≤◌, ◌↔◌, IsTrue, length, IfOk, IfErr};
 ghost use Rattle.std.specs.Str.{IsUtf8};
 ghost use Rattle.spectro_hmltext.specs.Faults.{AreFaultyClauses, BeginsFormula, IsClauseFault, IsFormulaFault, IsRefused, IsTextFault};

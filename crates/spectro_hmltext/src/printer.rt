@@ -1,9 +1,8 @@
-//! A sheet shares its parts, so the text of a formula may be longer than the sheet by any power of two. Its length is
-//! found first, node by node, lowest first, in numbers that stop at the greatest one; a text that is too long costs no byte.
-//! Then the text is written with a stack of what is still to be written, since a sheet may be as deep as it is long: what
-//! stands on the stack, from its top, is the rest of the text. To print until the limit is passed would write all those
-//! bytes for nothing, and functions that call each other would need a call for each level.
-
+// A sheet shares its parts, so the text of a formula may be longer than the sheet by any power of two. Its length is
+// found first, node by node, lowest first, in numbers that stop at the greatest one; a text that is too long costs no byte.
+// Then the text is written with a stack of what is still to be written, since a sheet may be as deep as it is long: what
+// stands on the stack, from its top, is the rest of the text. To print until the limit is passed would write all those
+// bytes for nothing, and functions that call each other would need a call for each level.
 ghost use Rattle.std.specs.Prelude.{◌≡◌, ◌<◌, [], ◌∷◌, ◌++◌, length, codes, string_bytes, Some, IfOk, OnOk};
 ghost use Rattle.spectro_hml.specs.Nodes.{node_shown};
 ghost use Rattle.spectro_hml.specs.Sheets.{unfolded};

@@ -1,8 +1,7 @@
-//! A text that comes in pieces, of which no more than a line is held: the bytes behind the last LF, until the next LF comes
-//! and the line is read. A fault is kept until the end, since the rest of the text is taken all the same, and behind it
-//! nothing is held. A whole text is a feed of one piece, so there is one reader and one proof. To hold the whole text takes
-//! up to 64 MiB beside what it stands for, and `BufRead::lines` takes memory for each line, however long it is.
-
+// A text that comes in pieces, of which no more than a line is held: the bytes behind the last LF, until the next LF comes
+// and the line is read. A fault is kept until the end, since the rest of the text is taken all the same, and behind it
+// nothing is held. A whole text is a feed of one piece, so there is one reader and one proof. To hold the whole text takes
+// up to 64 MiB beside what it stands for, and `BufRead::lines` takes memory for each line, however long it is.
 ghost use Rattle.std.specs.Prelude.{◌≡◌, ◌<◌, [], ◌∷◌, ◌++◌, List, ℕ, Contains, IfOk, IfErr, OnOk, OnErr, IsErr, Err};
 ghost use Rattle.spectro_lines.specs.Feeding.{EndsLine, HasRead, HasTaken, IsBroken, IsTold, Takes, stopped};
 ghost use Rattle.spectro_lines.specs.Texts.{IsText};

@@ -85,7 +85,8 @@ label_nos_from-named name (x ∷ steps) s = go (x.from == s) (label_nos_from-nam
   where
     go : (kept : Bool)
         → map name (label_nos_from steps s) ≡ map (λ (step : spec.Step). step.label) (filter (λ (step : spec.Step). step.source == s) (map (named name) steps))
-        → map name (map (λ (step : Step). step.label) (cond kept (x ∷ filter (λ (step : Step). step.from == s) steps) (filter (λ (step : Step). step.from == s) steps)))
+        → map name (map (λ (step : Step). step.label) (cond kept (x ∷ filter (λ (step : Step). step.from == s) steps)
+        (filter (λ (step : Step). step.from == s) steps)))
         ≡ map (λ (step : spec.Step). step.label)
         (cond kept (named name x ∷ filter (λ (step : spec.Step). step.source == s) (map (named name) steps))
         (filter (λ (step : spec.Step). step.source == s) (map (named name) steps)))

@@ -57,7 +57,8 @@ one-more : (p : ℕ) (label : Label) (step : Step) (steps : List Step)
 one-more p label step steps = go (list_any (λ q. q == step.source) (p ∷ [])) (bytes_eq step.label label)
   where
     go : (from under : Bool)
-        → length (map (λ (s : Step). s.target) (cond (from && under) (step ∷ filter (λ (s : Step). list_any (λ q. q == s.source) (p ∷ []) && bytes_eq s.label label) steps)
+        → length (map (λ (s : Step). s.target) (cond (from && under)
+        (step ∷ filter (λ (s : Step). list_any (λ q. q == s.source) (p ∷ []) && bytes_eq s.label label) steps)
         (filter (λ (s : Step). list_any (λ q. q == s.source) (p ∷ []) && bytes_eq s.label label) steps)))
         ≤ cond under 1 0 + length (targets_of steps (p ∷ []) label)
     go true true = omega arith

@@ -42,7 +42,8 @@ pub record Explored : Type 0 where
 abbrev pub NameRows : {X : Type 0} → List X → List (List ℕ) → List (List X) → Type 0
 NameRows members rows lists = map (map (slice_get members)) rows ≡ map (map Some) lists
 
--- the arena has just the pairs that the starts reach, in the order in which they are found, all within the states of the system, with their followers, and the labels and weights of their observations; no label weighs more than 255
+-- the arena has just the pairs that the starts reach, in the order in which they are found,
+-- all within the states of the system, with their followers, and the labels and weights of their observations; no label weighs more than 255
 pub record IsExploredFrom (system : System) (weighing : Weighing) (starts : List (ℕ × ℕ)) (explored : Explored) : Type 0 where
   pub reached : AreReachedPairs system (start_pairs starts) explored.pairs
   pub within : All (IsPairWithin system.states) explored.pairs

@@ -30,7 +30,8 @@ pairs_of sets keys = map (λ (key : Key). pair_at sets key.state key.set) keys
 abbrev pub interned : ℕ → ℕ → List (Vec ℕ Global) → List Key → Interned
 interned states limit sets keys = record { states = states; limit = limit; sets = lists_of sets; pairs = pairs_of (lists_of sets) keys }
 
--- the sets differ, are within the states and have numbers below 2^32 - 1, each key has a state and the number of a set, the size is that of the pairs and at most the limit, and what is known of a pair is its number
+-- the sets differ, are within the states and have numbers below 2^32 - 1, each key has a state and the number of a set,
+-- the size is that of the pairs and at most the limit, and what is known of a pair is its number
 pub record AreInterned (states limit size_of_pairs : ℕ) (known : Known) (sets : List (Vec ℕ Global)) (keys : List Key) : Type 0 where
   pub once : StandOnce (lists_of sets)
   pub within : All (IsSetWithin states) (lists_of sets)

@@ -40,7 +40,8 @@ impl Model for Arena {
 
     ghost view = { λ a. record { pairs = a.pairs.pairs; followers = a.followers.rows; labels = a.labels.rows; weights = a.weights.items } };
 
-    ghost invariant = { λ a. IsArena (record { pairs = a.pairs.pairs; followers = a.followers.rows; labels = a.labels.rows; weights = a.weights.items }) a.preds.rows };
+    ghost invariant = { λ a. IsArena (record { pairs = a.pairs.pairs; followers = a.followers.rows; labels = a.labels.rows; weights = a.weights.items })
+        a.preds.rows };
 }
 
 impl Arena {

@@ -45,7 +45,9 @@ index-requires c =
     omega (arith, below, length-lists_of c.self.inside.sets.keys)
 
 -- the new size is at most that with the pair, and is that where it is at most a million
-sized : (c : After-weight) → let with_pair = size (with_last is_same_pair (pairs_of (lists_of c.self.inside.sets.keys) c.self.inside.keys.keys) (pair_at (lists_of c.self.inside.sets.keys) c.args.state c.args.set)) in
+sized : (c : After-weight)
+    → let with_pair = size (with_last is_same_pair (pairs_of (lists_of c.self.inside.sets.keys) c.self.inside.keys.keys)
+    (pair_at (lists_of c.self.inside.sets.keys) c.args.state c.args.set)) in
     (c.from.result + c.weight.result ≤ with_pair) × (c.from.result + c.weight.result ≤ 1000000 → c.from.result + c.weight.result ≡ with_pair)
 sized c =
     let below = rw (← c.self.view_is) at c.requires.set in
