@@ -1,7 +1,10 @@
 -- Why a stage stops, as why the whole chain does.
 use Rattle.std.proofs.Common.{◌≡◌, ◌∙◌, ℕ, [], refl, sym, subst, arith}
-use Rattle.std.specs.Prelude.{◌≤◌, Result, Ok, Err, IfOk, IfErr, MatchResult}
+use Rattle.std.specs.Prelude.{◌≤◌, List, Option, None, Some, Result, Ok, Err, IfOk, IfErr, MatchResult}
 use Rattle.spectro_io.specs.Faults.{Rose}
+use Rattle.spectro_io.specs.Shelves.{Texts}
+use Rattle.spectro_words.specs.Commands.{Command}
+use Rattle.spectro_run.specs.Reading.{JudgesWhole, LeavesRest}
 use Rattle.spectro_run.specs.Stages.{Outcome, Stage, After}
 use Rattle.spectro_run.specs.Stages as stages
 use Rattle.spectro_run.specs.Stops.{Counts, IsStop, Stops, no_memory, refused, unread}
@@ -52,3 +55,15 @@ pub ends-as : {T : Type 0} {P A : T → Type 0} {Q B : Status → Type 0} (resul
     → MatchResult result A B
 ends-as (Ok value) ok err gives stops = gives value ok
 ends-as (Err status) ok err gives stops = stops status err
+
+-- where a stage stops, each file stands as it does where the stage is refused
+pub stops-whole : {P : Status → Type 0} {Failed : Type 0} (told : Option Texts) (asked : Command) (left : Option (List ℕ)) (status : Status)
+    → (P status → JudgesWhole told (Some asked) left status) → Stops P Failed status → JudgesWhole told (Some asked) left status
+stops-whole told asked left status refusal (no_memory is) = subst (JudgesWhole told (Some asked) left) (sym is) tt
+stops-whole told asked left status refusal (unread is failed) = subst (JudgesWhole told (Some asked) left) (sym is) tt
+stops-whole told asked left status refusal (refused stop refuses) = refusal refuses
+
+-- nothing is left of no file
+pub leaves-none : (told : Option Texts) (left : Option (List ℕ)) → LeavesRest told None left
+leaves-none None left = tt
+leaves-none (Some texts) left = tt

@@ -1,16 +1,17 @@
-use Rattle.std.proofs.Common.{◌≡◌, ◌∙◌, ap, arith, refl, subst}
-use Rattle.std.specs.Prelude.{IsTrue, ◌↔◌, None, Ok}
+use Rattle.std.proofs.Common.{◌≡◌, ◌∙◌, ap, arith, refl, sym, subst}
+use Rattle.std.specs.Prelude.{IsTrue, ◌↔◌, None, Some, Ok}
 use Rattle.std.proofs.lemmas.Result.{err_from_is_err_and}
 use Rattle.spectro_spec.specs.Formula.{Satisfies}
 use Rattle.spectro_spec.specs.Pricing.{price}
 use Rattle.spectro_energy.specs.Energy.{price_of}
 use Rattle.spectro_words.specs.Words.{named}
 use Rattle.spectro_run.specs.Commands.Eval.{eval_text}
+use Rattle.spectro_run.specs.Reading.{JudgesWhole}
 use Rattle.spectro_run.specs.Stages.{given}
 use Rattle.spectro_run.specs.Stops.{no_memory}
 use Rattle.spectro_words.specs.Commands.{eval}
 use Rattle.spectro_run.proofs.FilesHeld.{are-held, files_held, some-held}
-use Rattle.spectro_run.proofs.Stopping.{counts-same, rose-wider, stops-behind, stops-first}
+use Rattle.spectro_run.proofs.Stopping.{counts-same, rose-wider, stops-behind, stops-first, leaves-none, stops-whole}
 use Rattle.spectro_run.proofs.commands.eval.eval.Goals as goal
 
 pub returns-in_err-lts-clause-prepared : goal.returns-in_err-lts-clause-prepared
@@ -86,3 +87,12 @@ returns-clause-prepared g c =
 
 pub returns-clause-counts : goal.returns-clause-counts
 returns-clause-counts g c = counts-same _ _ (Ok c.in_ok-evaluate.field-0) (c.in_ok-weights.ensures.counts.kept ∙ c.in_ok-lts.ensures.counts.kept)
+
+pub returns-in_err-parsed-clause-whole : goal.returns-in_err-parsed-clause-whole
+returns-in_err-parsed-clause-whole g c =
+    let p = err_from_is_err_and c.from_residual-in_err-parsed.result c.from_residual-in_err-parsed.ensures.1 in
+    let told = g.H.Source.texts c.args.shelf.now in
+    let asked = eval c.args.formula.now c.args.file.now (named c.args.weights) in
+    let left = g.H.Source.left c.take_system.new.shelf in
+    rw (p.1, p.2) (stops-whole told asked left _ (λ refusal. subst (JudgesWhole told (Some asked) left) (sym refusal.2) (leaves-none told left))
+    c.in_err-parsed.ensures.stopped)

@@ -1,11 +1,12 @@
-use Rattle.std.proofs.Common.{◌∙◌, refl, arith}
+use Rattle.std.proofs.Common.{◌∙◌, refl, sym, subst, arith}
 use Rattle.std.specs.Prelude.{None, Some}
-use Rattle.std.proofs.lemmas.Result.{err_from_is_err_and}
+use Rattle.std.proofs.lemmas.Result.{err_from_is_err_and, IfErr-weaker}
 use Rattle.spectro_run.specs.Commands.Size.{size_line}
+use Rattle.spectro_run.specs.Reading.{JudgesWhole}
 use Rattle.spectro_run.specs.Stages.{given}
 use Rattle.spectro_words.specs.Commands.{size}
 use Rattle.spectro_run.proofs.FilesHeld.{are-held, files_held, some-held}
-use Rattle.spectro_run.proofs.Stopping.{counts-same, ends-as, rose-wider, stops-behind, stops-first}
+use Rattle.spectro_run.proofs.Stopping.{counts-same, ends-as, rose-wider, stops-behind, stops-first, stops-whole}
 use Rattle.spectro_run.proofs.commands.size.size.Goals as goal
 
 pub returns-in_err-left-clause-prepared : goal.returns-in_err-left-clause-prepared
@@ -51,3 +52,11 @@ returns-clause-prepared g c =
 
 pub returns-clause-counts : goal.returns-clause-counts
 returns-clause-counts g c = counts-same _ _ c.extent_of.result (c.in_ok-right.ensures.counts.kept ∙ c.in_ok-left.ensures.counts.kept)
+
+pub returns-clause-whole : goal.returns-clause-whole
+returns-clause-whole g c =
+    let told = g.H.Source.texts c.args.shelf.now in
+    let asked = size c.args.left.now c.args.right.now c.args.limit in
+    let left = g.H.Source.left c.take_system-2.new.shelf in
+    IfErr-weaker c.extent_of.result _ (JudgesWhole told (Some asked) left)
+    (λ status. stops-whole told asked left status (λ refusal. subst (JudgesWhole told (Some asked) left) (sym refusal.0) tt)) c.extent_of.ensures.stopped
