@@ -1,7 +1,7 @@
--- The followers, weights and sizes of small pairs.
+-- The followers, positions and sizes of small pairs.
 use Rattle.std.proofs.Common.{◌≡◌, ◌≤◌, ℕ, ◌+◌, List, [], ◌∷◌, length, Contains, refl, arith}
 use Rattle.spectro_spec.specs.System.{post}
-use Rattle.spectro_game.specs.Pairs.{Pair, followers, IsFollower, IsClosed, IsOneOf, weight, size}
+use Rattle.spectro_game.specs.Pairs.{Pair, followers, IsFollower, IsClosed, IsOneOf, positions, size}
 use Rattle.spectro_spec.proofs.Members.{Contains-first, any_member, only_member, Contains-none}
 use Rattle.spectro_spec.proofs.Samples.{two_stopped, one_step, late_and_early, mixed}
 
@@ -81,18 +81,18 @@ not_IsClosed-one_step closed =
     let later : Contains (pair 0 [] ∷ []) (pair 1 []) = closed 0 [] 1 [] (Contains-first (pair 0 []) []) (Contains-first (pair 1 []) []) in
     only_member (λ (x : Pair). ¬ (x.state ≡ 1)) (pair 0 []) (pair 1 []) (λ e. omega arith) later refl
 
-weight-no_set : weight (pair 5 []) ≡ 2
-weight-no_set = refl
+positions-no_set : positions (pair 5 []) ≡ 2
+positions-no_set = refl
 
 -- the positive and the negative clause have a position of their own
-weight-one : weight (pair 5 (5 ∷ [])) ≡ 4
-weight-one = refl
+positions-one : positions (pair 5 (5 ∷ [])) ≡ 4
+positions-one = refl
 
-weight-two : weight (pair 0 (1 ∷ 2 ∷ [])) ≡ 5
-weight-two = refl
+positions-two : positions (pair 0 (1 ∷ 2 ∷ [])) ≡ 5
+positions-two = refl
 
-weight-three : weight (pair 0 (0 ∷ 1 ∷ 2 ∷ [])) ≡ 9
-weight-three = refl
+positions-three : positions (pair 0 (0 ∷ 1 ∷ 2 ∷ [])) ≡ 9
+positions-three = refl
 
 size-none : size [] ≡ 0
 size-none = refl

@@ -47,9 +47,9 @@ abbrev pub AreReachedPairs : System → List Pair → List Pair → Type 0
 AreReachedPairs system starts pairs = AreReached (followers system) starts pairs
 
 -- how many positions of the game the pair stands for
-abbrev pub weight : Pair → ℕ
-weight x = 1 + 2 ^ length x.set + (if length x.set == 1 then 1 else 0)
+abbrev pub positions : Pair → ℕ
+positions x = 1 + 2 ^ length x.set + (if length x.set == 1 then 1 else 0)
 
 -- how many positions the game on these pairs has
 abbrev pub size : List Pair → ℕ
-size pairs = sum_by weight pairs
+size pairs = sum_by positions pairs

@@ -7,7 +7,7 @@ use Rattle.std.proofs.lemmas.List.Elements.{All-nil, All-weaker}
 use Rattle.std.proofs.lemmas.Bool.{cases_lt}
 use Rattle.std.proofs.lemmas.Option.{get_or_from_slice_get}
 use Rattle.std.proofs.Math.Nat.{pow-le-pow_right}
-use Rattle.spectro_game.specs.Pairs.{Pair, weight, size}
+use Rattle.spectro_game.specs.Pairs.{Pair, positions, size}
 use Rattle.spectro_game.specs.Reached.{StandsAt}
 use Rattle.spectro_theory.specs.Reaching.{StandOnce, with_last, is_same_pair}
 use Rattle.spectro_theory.proofs.Places.{holds-at, stands-some}
@@ -43,18 +43,18 @@ interned-nil states limit known sets keys no-sets no-keys bound wide none =
       exact = λ set state n knows. absurd (none set state n knows);
     }
 
--- the number that stands for a weight is at most the weight, and is the weight where it is at most a million
-weight-low : (x : Pair) (n r : ℕ) → n ≡ length x.set → (n < 20 → r ≡ 1 + 2 ^ n + (if n == 1 then 1 else 0)) → (20 ≤ n → r ≡ 1048577)
-    → (r ≤ weight x) × (r ≤ 1000000 → r ≡ weight x)
-weight-low x n r members few many = elim (cases_lt n 20) [ inl below ↦ exact (few below) | inr past ↦ large past (many past) ]
+-- the number that stands for the positions of a pair is at most theirs, and is theirs where it is at most a million
+positions-low : (x : Pair) (n r : ℕ) → n ≡ length x.set → (n < 20 → r ≡ 1 + 2 ^ n + (if n == 1 then 1 else 0)) → (20 ≤ n → r ≡ 1048577)
+    → (r ≤ positions x) × (r ≤ 1000000 → r ≡ positions x)
+positions-low x n r members few many = elim (cases_lt n 20) [ inl below ↦ exact (few below) | inr past ↦ large past (many past) ]
   where
-    same : 1 + 2 ^ n + (if n == 1 then 1 else 0) ≡ weight x
+    same : 1 + 2 ^ n + (if n == 1 then 1 else 0) ≡ positions x
     same = ap (λ m. 1 + 2 ^ m + (if m == 1 then 1 else 0)) members
 
-    exact : r ≡ 1 + 2 ^ n + (if n == 1 then 1 else 0) → (r ≤ weight x) × (r ≤ 1000000 → r ≡ weight x)
-    exact e = let whole : r ≡ weight x = e ∙ same in (omega arith, λ _. whole)
+    exact : r ≡ 1 + 2 ^ n + (if n == 1 then 1 else 0) → (r ≤ positions x) × (r ≤ 1000000 → r ≡ positions x)
+    exact e = let whole : r ≡ positions x = e ∙ same in (omega arith, λ _. whole)
 
-    large : 20 ≤ n → r ≡ 1048577 → (r ≤ weight x) × (r ≤ 1000000 → r ≡ weight x)
+    large : 20 ≤ n → r ≡ 1048577 → (r ≤ positions x) × (r ≤ 1000000 → r ≡ positions x)
     large past e =
         let power : 2 ^ 20 ≤ 2 ^ n = pow-le-pow_right (lit< tt) past in
         let whole = same in
@@ -151,7 +151,7 @@ module _ {states limit n : ℕ} {known : Known} {sets : List (Vec ℕ Global)} {
     known-pair known = with_last-known is_same_pair pairs new (sym (any-pairs (lists_of sets) well.once key keys below well.numbered) ∙ known)
 
     pub new-size : list_any (is_same_key key) keys ≡ false
-        → size (with_last is_same_pair (pairs_of (lists_of sets) keys) (pair_at (lists_of sets) key.state key.set)) ≡ n + weight
+        → size (with_last is_same_pair (pairs_of (lists_of sets) keys) (pair_at (lists_of sets) key.state key.set)) ≡ n + positions
         (pair_at (lists_of sets) key.state key.set)
     new-size none =
         let put = with_last-new is_same_pair pairs new (sym (any-pairs (lists_of sets) well.once key keys below well.numbered) ∙ none) in
@@ -178,10 +178,10 @@ module _ {states limit n : ℕ} {known : Known} {sets : List (Vec ℕ Global)} {
           (stands-with_last is_same_key same_key-equal same_key-itself keys key m (record { state = q; set = p }) (well.exact p q m knows));
     }
 
-    -- the weight of the pair, by the members of its set
-    pub weight-new : (set : Vec ℕ Global) (m r : ℕ) → slice_get sets key.set ≡ Some set → m ≡ vec_len set
+    -- the positions of the pair, by the members of its set
+    pub positions-new : (set : Vec ℕ Global) (m r : ℕ) → slice_get sets key.set ≡ Some set → m ≡ vec_len set
         → (m < 20 → r ≡ 1 + 2 ^ m + (if m == 1 then 1 else 0)) → (20 ≤ m → r ≡ 1048577)
-        → (r ≤ weight (pair_at (lists_of sets) key.state key.set)) × (r ≤ 1000000 → r ≡ weight (pair_at (lists_of sets) key.state key.set))
-    weight-new set m r here members =
-        weight-low new m r (members ∙ set.ok.0
+        → (r ≤ positions (pair_at (lists_of sets) key.state key.set)) × (r ≤ 1000000 → r ≡ positions (pair_at (lists_of sets) key.state key.set))
+    positions-new set m r here members =
+        positions-low new m r (members ∙ set.ok.0
         ∙ sym (ap (λ (x : Pair). length x.set) (pair_at-set (lists_of sets) key.state key.set set.items (stands-lists sets key.set set here))))

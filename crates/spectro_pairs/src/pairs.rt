@@ -167,7 +167,7 @@ impl Pairs {
         if let Some(k) = self.keys.get_index_of(&key) {
             return Ok(k as u32);
         }
-        let size = u64::from(self.size) + weight(self.sets[set as usize].len());
+        let size = u64::from(self.size) + positions(self.sets[set as usize].len());
         if size > u64::from(self.limit) {
             return Err(ExploreError::TooLarge { at_least: size });
         }
@@ -179,7 +179,7 @@ impl Pairs {
 
 // How many positions a pair with a set of `n` members stands for, or, where these are more than a million, a number above
 // a million that is at most theirs.
-fn weight(n: usize) -> u64
+fn positions(n: usize) -> u64
     ensures few { n < 20 → result ≡ 1 + 2 ^ n + (if n == 1 then 1 else 0) }
     ensures many { 20 ≤ n → result ≡ 1048577 }
 {

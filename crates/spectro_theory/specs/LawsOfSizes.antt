@@ -1,6 +1,6 @@
 -- Laws of the size of the game on a list of pairs.
 use Rattle.std.specs.Prelude.{◌≡◌, ◌≢◌, ◌<◌, ◌≤◌, ◌+◌, ◌*◌, ◌^◌, List, ◌++◌, length}
-use Rattle.spectro_game.specs.Pairs.{Pair, weight, size}
+use Rattle.spectro_game.specs.Pairs.{Pair, positions, size}
 use Rattle.spectro_game.specs.Reached.{StandsIn}
 
 -- the sizes of a front and of the rest make that of the whole
@@ -15,13 +15,13 @@ FrontsAreNoLarger = (front rest : List Pair) → size front ≤ size (front ++ r
 abbrev pub PairsAreAtMostHalfTheSize : Type 0
 PairsAreAtMostHalfTheSize = (pairs : List Pair) → 2 * length pairs ≤ size pairs
 
--- a pair with a set of n members weighs 2 ^ n + 1, and one more where n is 1
-abbrev pub PairsWeighByTheirMembers : Type 0
-PairsWeighByTheirMembers = (x : Pair) → (length x.set ≢ 1 → weight x ≡ 2 ^ length x.set + 1) × (length x.set ≡ 1 → weight x ≡ 4)
+-- a pair with a set of n members stands for 2 ^ n + 1 positions, and for one more where n is 1
+abbrev pub PairsHavePositionsByTheirMembers : Type 0
+PairsHavePositionsByTheirMembers = (x : Pair) → (length x.set ≢ 1 → positions x ≡ 2 ^ length x.set + 1) × (length x.set ≡ 1 → positions x ≡ 4)
 
--- each of the pairs weighs at most their size
-abbrev pub PairsWeighAtMostTheSize : Type 0
-PairsWeighAtMostTheSize = (pairs : List Pair) (x : Pair) → StandsIn pairs x → weight x ≤ size pairs
+-- each of the pairs stands for no more positions than all
+abbrev pub PairsHaveAtMostAllPositions : Type 0
+PairsHaveAtMostAllPositions = (pairs : List Pair) (x : Pair) → StandsIn pairs x → positions x ≤ size pairs
 
 -- the parts of a set of one of the pairs are fewer than the positions
 abbrev pub PartsAreFewerThanTheSize : Type 0

@@ -20,11 +20,12 @@ pub use notions::{
 };
 pub use pairs::{
     divisions_are_by_mask, followers_are_by_case, fronts_are_no_larger,
-    pairs_are_at_most_half_the_size, pairs_are_put_last, pairs_weigh_at_most_the_size,
-    pairs_weigh_by_their_members, pairs_without_repeats_stay, parts_are_fewer_than_the_size,
-    putting_last_goes_on, reached_fronts_are_fronts, reached_pairs_are_closed,
-    reached_pairs_are_one, reached_pairs_exist, reaching_begins, reaching_ends, reaching_goes_on,
-    same_pairs_are_equal, sets_have_at_most_nineteen_members, sizes_add_up,
+    pairs_are_at_most_half_the_size, pairs_are_put_last, pairs_have_at_most_all_positions,
+    pairs_have_positions_by_their_members, pairs_without_repeats_stay,
+    parts_are_fewer_than_the_size, putting_last_goes_on, reached_fronts_are_fronts,
+    reached_pairs_are_closed, reached_pairs_are_one, reached_pairs_exist, reaching_begins,
+    reaching_ends, reaching_goes_on, same_pairs_are_equal, sets_have_at_most_nineteen_members,
+    sizes_add_up,
 };
 pub use prices::{
     inverses_are_least, minimal_elements_are_by_cover, minimal_elements_are_minimal,

@@ -13,8 +13,8 @@ ghost use Rattle.spectro_theory.specs.LawsOfReaching.{
 ghost use Rattle.spectro_theory.specs.LawsOfSizes.{
   FrontsAreNoLarger,
   PairsAreAtMostHalfTheSize,
-  PairsWeighAtMostTheSize,
-  PairsWeighByTheirMembers,
+  PairsHaveAtMostAllPositions,
+  PairsHavePositionsByTheirMembers,
   PartsAreFewerThanTheSize,
   SetsHaveAtMostNineteenMembers,
   SizesAddUp,
@@ -101,14 +101,14 @@ pub fn pairs_are_at_most_half_the_size()
     ensures { PairsAreAtMostHalfTheSize }
 {}
 
-/// A pair with a set of `n` members weighs `2 ^ n + 1`, and one more where `n` is 1.
-pub fn pairs_weigh_by_their_members()
-    ensures { PairsWeighByTheirMembers }
+/// A pair with a set of `n` members stands for `2 ^ n + 1` positions, and for one more where `n` is 1.
+pub fn pairs_have_positions_by_their_members()
+    ensures { PairsHavePositionsByTheirMembers }
 {}
 
-/// Each of the pairs weighs at most their size.
-pub fn pairs_weigh_at_most_the_size()
-    ensures { PairsWeighAtMostTheSize }
+/// Each of the pairs stands for no more positions than all.
+pub fn pairs_have_at_most_all_positions()
+    ensures { PairsHaveAtMostAllPositions }
 {}
 
 /// The parts of a set of one of the pairs are fewer than the positions.
