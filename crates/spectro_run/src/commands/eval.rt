@@ -11,6 +11,7 @@ ghost use Rattle.spectro_run.specs.Reading.{JudgesWhole};
 ghost use Rattle.spectro_run.specs.Stops.{Counts, IsPrepared};
 ghost use Rattle.spectro_run.specs.Weighted.{parts_shown};
 ghost use Rattle.spectro_words.specs.Commands as words;
+ghost use Rattle.spectro_hmltext.specs.declared.parser.TheConstants.{MAX_TEXT_BYTES};
 
 use crate::cost::cost_of;
 use crate::output::{parts_shown, put_price_line};
@@ -60,7 +61,7 @@ fn evaluate(
     parts: Parts,
 ) -> Result<Evaluated, AllocError>
     requires node { node < length sheet.now }
-    requires few { length sheet.now ≤ 65536 }
+    requires few { length sheet.now ≤ MAX_TEXT_BYTES }
     ensures truth { IfOk result (λ evaluated. IsTrue evaluated.truth ↔ Satisfies lts.now lts.now.initial (unfolded sheet.now node)) }
     ensures price { IfOk result (λ evaluated. price_of evaluated.price.parts ≡ price weights.now (unfolded sheet.now node)) }
     ensures parts { IfOk result (λ evaluated. evaluated.parts ≡ parts) }

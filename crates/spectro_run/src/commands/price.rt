@@ -46,7 +46,7 @@ impl Written for Priced {
 // What is printed of the formula of a node.
 fn printed(alloc: Global, sheet: &Sheet, node: usize) -> Result<FormulaText, AllocError>
     requires node { node < length sheet.now }
-    requires short { length (formula_text (unfolded sheet.now node)) ≤ 131072 }
+    requires short { length (formula_text (unfolded sheet.now node)) ≤ MOST_PRINTED }
     ensures { IfOk result (λ text. text ≡ formula_text (unfolded sheet.now node)) }
 {
     match print(alloc, sheet, node, MOST_PRINTED)? {
