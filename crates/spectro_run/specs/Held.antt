@@ -26,7 +26,7 @@ file_of Certificate command = None
 -- the command, if there is one, has no file
 abbrev pub HasNoFile : Option Command → Type 0
 HasNoFile None = Unit {0}
-HasNoFile (Some command) = (which : Which) → file_of which command ≡ None
+HasNoFile (Some command) = (file_of Left command ≡ None) × (file_of Right command ≡ None) × (file_of Weights command ≡ None)
 
 -- what each file of a command holds; nothing for one that it has not
 abbrev pub Held : Type 0

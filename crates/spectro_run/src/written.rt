@@ -1,8 +1,10 @@
-ghost use Rattle.std.specs.Prelude.{◌≡◌, ◌≢◌, ℕ, List, IfOk, IfErr};
+ghost use Rattle.std.specs.Prelude.{◌≡◌, ◌≢◌, ℕ, List, Option, Some, IfOk, IfErr};
 ghost use Rattle.spectro_io.specs.Bytes.{WritesWhole};
 ghost use Rattle.spectro_io.specs.Faults.{HasCause, Rose};
-ghost use Rattle.spectro_run.specs.Outcome.{Finishes, IsSilent};
-ghost use Rattle.spectro_run.specs.Stops.{IsStop};
+ghost use Rattle.spectro_io.specs.Shelves.{Texts};
+ghost use Rattle.spectro_run.specs.Outcome.{Finishes, IsAnswered, IsSilent};
+ghost use Rattle.spectro_run.specs.Stops.{IsPrepared, IsStop};
+ghost use Rattle.spectro_words.specs.Commands.{Command};
 
 use crate::status::Status;
 use spectro_io::{Failed, Sink};
@@ -23,6 +25,8 @@ pub fn finish<W: Written + Drop, O: Sink>(answer: Result<W, Status>, out: &mut O
     requires { IfErr answer IsStop }
     ensures written { IfOk answer (λ written. Finishes (W.text written) result (O.written out.old) (O.written out.new)) }
     ensures stopped { IfErr answer (λ status. (result ≡ status) × (out.new ≡ out.old)) }
+    ensures answered { (told : Option Texts) (command : Command) (before now : ℕ) → IsPrepared told command W.text (Rose before now) answer
+        → IsAnswered told (Some command) (Rose before now) (Rose (O.faults out.old) (O.faults out.new)) result (O.written out.old) (O.written out.new) }
     ensures silent { IsSilent result out.old out.new }
     ensures cause { result ≡ Status.WriteFault → Rose (O.faults out.old) (O.faults out.new) }
     ensures kept { result ≢ Status.WriteFault → O.faults out.new ≡ O.faults out.old }

@@ -1,3 +1,4 @@
+-- The message of each status is what is written.
 use Rattle.spectro_run.proofs.message.write_message.Goals as goal
 
 pub returns-in-ReadFault-clause-bytes : goal.returns-in-ReadFault-clause-bytes

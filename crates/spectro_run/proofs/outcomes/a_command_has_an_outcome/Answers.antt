@@ -1,3 +1,4 @@
+-- Each stage has an outcome, and so has each chain of stages.
 use Rattle.spectro_run.proofs.SomeOutcome.{some_of_command}
 use Rattle.spectro_run.proofs.outcomes.a_command_has_an_outcome.Goals as goal
 

@@ -1,3 +1,4 @@
+-- Each stage has at most one outcome, and so has each chain of stages.
 use Rattle.spectro_run.proofs.OneOutcome.{one_of_command}
 use Rattle.spectro_run.proofs.outcomes.a_command_has_at_most_one_outcome.Goals as goal
 

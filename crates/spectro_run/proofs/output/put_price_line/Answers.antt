@@ -1,3 +1,4 @@
+-- The word, the price and the LF are the line.
 use Rattle.std.proofs.Common.{sym, subst}
 use Rattle.std.proofs.lemmas.Result.{err_from_is_err_and}
 use Rattle.spectro_io.specs.Batches.{Puts}

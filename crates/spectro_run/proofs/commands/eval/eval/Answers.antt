@@ -1,3 +1,4 @@
+-- The stages stop as the chain says, and behind the last one the truth and the price are those of the formula.
 use Rattle.std.proofs.Common.{◌≡◌, ◌∙◌, ap, arith, refl, sym, subst}
 use Rattle.std.specs.Prelude.{IsTrue, ◌↔◌, None, Some, Ok}
 use Rattle.std.proofs.lemmas.Result.{err_from_is_err_and}

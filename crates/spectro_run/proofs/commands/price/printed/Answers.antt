@@ -1,3 +1,4 @@
+-- The text is short enough, so it is printed.
 use Rattle.std.proofs.Common.{arith, subst}
 use Rattle.spectro_hml.specs.Sheets.{unfolded}
 use Rattle.spectro_hmltext.specs.Printed.{IsPrinted}

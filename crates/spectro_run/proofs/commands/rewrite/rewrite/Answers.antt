@@ -1,3 +1,4 @@
+-- The one stage stops as the chain says, and else the system is that of the file.
 use Rattle.std.proofs.Common.{refl}
 use Rattle.std.specs.Prelude.{None}
 use Rattle.std.proofs.lemmas.Result.{err_from_is_err_and}

@@ -1,3 +1,4 @@
+-- The pairs of the joined system are those of the comparison, or are too many.
 use Rattle.std.proofs.Common.{◌+◌, subst, arith, refl}
 use Rattle.spectro_game.specs.Pairs.{size}
 use Rattle.spectro_pairs.specs.Limits.{IsPastLimit}

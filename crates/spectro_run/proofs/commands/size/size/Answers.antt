@@ -1,4 +1,5 @@
-use Rattle.std.proofs.Common.{◌∙◌, refl, sym, subst, arith}
+-- The stages stop as the chain says, and behind the last one the line is that of the pairs.
+use Rattle.std.proofs.Common.{refl, sym, subst, arith}
 use Rattle.std.specs.Prelude.{None, Some}
 use Rattle.std.proofs.lemmas.Result.{err_from_is_err_and, IfErr-weaker}
 use Rattle.spectro_run.specs.Commands.Size.{size_line}
@@ -6,7 +7,7 @@ use Rattle.spectro_run.specs.Reading.{JudgesWhole}
 use Rattle.spectro_run.specs.Stages.{given}
 use Rattle.spectro_words.specs.Commands.{size}
 use Rattle.spectro_run.proofs.FilesHeld.{are-held, files_held, some-held}
-use Rattle.spectro_run.proofs.Stopping.{counts-same, ends-as, rose-wider, stops-behind, stops-first, stops-whole}
+use Rattle.spectro_run.proofs.Stopping.{ends-as, rose-wider, stops-behind, stops-first, stops-whole}
 use Rattle.spectro_run.proofs.commands.size.size.Goals as goal
 
 pub returns-in_err-left-clause-prepared : goal.returns-in_err-left-clause-prepared
@@ -49,9 +50,6 @@ returns-clause-prepared g c =
           (λ status stopped. stops-behind _ _ c.in_ok-left.left status first.ends (λ failed. failed)
           (stops-behind _ _ c.in_ok-right.right status second.ends (λ failed. failed) (stops-first _ _ status (λ failed. absurd failed) stopped)));
     }
-
-pub returns-clause-counts : goal.returns-clause-counts
-returns-clause-counts g c = counts-same _ _ c.extent_of.result (c.in_ok-right.ensures.counts.kept ∙ c.in_ok-left.ensures.counts.kept)
 
 pub returns-clause-whole : goal.returns-clause-whole
 returns-clause-whole g c =
