@@ -22,7 +22,6 @@ mod line_readers;
 #[cfg(test)]
 mod node_lines;
 #[cfg(test)]
-#[cfg(test)]
 mod prices;
 #[cfg(test)]
 mod printed_formulas;
