@@ -28,6 +28,8 @@ mod printed_formulas;
 #[cfg(test)]
 mod quoted_labels;
 #[cfg(test)]
+mod rows;
+#[cfg(test)]
 mod runs;
 #[cfg(test)]
 mod samples;
