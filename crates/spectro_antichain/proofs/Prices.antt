@@ -1,15 +1,19 @@
 -- What calls on energies leave of their prices.
-use Rattle.std.proofs.Common.{ℕ, ◌≡◌, List, [], ◌∷◌, length, refl, sym, ap, subst, ◌∙◌, Bool, true, false, cond, not, ◌||◌, ◌+◌, ◌<◌, ◌≤◌, suc, arith, ltb, Some, None}
-use Rattle.std.specs.Bool.{Decides}
+use Rattle.std.proofs.Common.{ℕ, ◌≡◌, List, [], ◌∷◌, length, refl, sym, ap, subst, ◌∙◌, Bool, true, false, cond, not, ◌||◌, ◌+◌, ◌<◌, ◌≤◌, ◌≢◌, suc, arith, ltb, Some, None, take, get_or}
+use Rattle.std.specs.Bool.{Decides, ◌==◌}
 use Rattle.std.specs.Option.{unwrap_or}
 use Rattle.std.specs.Prelude.{◌↔◌, IsTrue}
+use Rattle.std.specs.Ordering.{ordering_index}
+use Rattle.std.specs.declared.cmp.Ordering.{Ordering}
+use Rattle.std.specs.declared.cmp.Ordering.TheVariants.{Less, Equal, Greater}
 use Rattle.std.specs.List.{list_any, filter, insert, position_or_len}
 use Rattle.std.proofs.lemmas.Bool.Decides.{same_from_decides, Decides-at, Decides-ltb, not_from_Decides}
+use Rattle.std.proofs.lemmas.List.{get_or-map, length-map, take_more_same}
 use Rattle.std.proofs.lemmas.List.Sums.{prefix_len-le-length}
 use Rattle.spectro_spec.specs.Price.{Price, IsAtMost, ComesBefore, parts}
 use Rattle.spectro_spec.specs.LeastPrices.{Covers, Rises, AreApart}
 use Rattle.spectro_game.specs.MinimalElements.{is_at_most, precedes, some_covers, not_above, placed_price, inserted}
-use Rattle.spectro_energy.specs.Energy.{price_of, prices_of}
+use Rattle.spectro_energy.specs.Energy.{price_of, prices_of, IsLexicographic}
 use Rattle.spectro_energy.specs.declared.energy.Energy.{Energy}
 use Rattle.spectro_theory.proofs.MinimalElements.{by_test, is_at_most-Decides, precedes-Decides, some_covers-Decides, inserted-rises, inserted-apart}
 use Rattle.spectro_antichain.specs.Prices.{comes_first}
@@ -23,6 +27,38 @@ above_by answer e f (other, is, told) = is ∙ ap not (at_most_by other e f told
 
 pub first_by : (answer : Bool) (e f : Price) → (IsTrue answer ↔ ComesBefore e f) → answer ≡ precedes (parts e) (parts f)
 first_by answer e f told = same_from_decides answer (precedes (parts e) (parts f)) told (precedes-Decides (parts e) (parts f))
+
+-- what the test for the same place in the order tells
+pub same_by : (order : Ordering) (e f : Price) → IsLexicographic order e f → not (ordering_index order == 1) ≡ false → e ≡ f
+same_by Less e f told same = cc
+same_by Equal e f told same = told.equal.0 refl
+same_by Greater e f told same = cc
+
+pub apart_by : (order : Ordering) (e f : Price) → IsLexicographic order e f → not (ordering_index order == 1) ≡ true → e ≢ f
+apart_by Less e f told apart same = let wrong = told.equal.1 same in cc
+apart_by Equal e f told apart same = cc
+apart_by Greater e f told apart same = let wrong = told.equal.1 same in cc
+
+-- the price of the energy at place k
+price-prices_of : (fs : List Energy) (k : ℕ) (f : Energy) (d : Price) → k < length fs → get_or (prices_of fs) k d ≡ price_of (get_or fs k f).parts
+price-prices_of fs k f d below = get_or-map (λ g. price_of g.parts) fs k f d below
+
+-- two lists of energies with the same first prices, and one more
+pub same_more : (fs gs : List Energy) (k : ℕ) (f : Energy) → length fs ≡ length gs → k < length fs → take k (prices_of fs) ≡ take k (prices_of gs)
+    → price_of (get_or fs k f).parts ≡ price_of (get_or gs k f).parts → take (k + 1) (prices_of fs) ≡ take (k + 1) (prices_of gs)
+same_more fs gs k f long below was same =
+    let d = price_of f.parts in
+    let left = price-prices_of fs k f d below in
+    let right = price-prices_of gs k f d (omega arith) in
+    take_more_same (prices_of fs) (prices_of gs) k d (omega (arith, length-map fs (λ g. price_of g.parts))) (omega (arith, length-map gs (λ g. price_of g.parts)))
+    was (left ∙ same ∙ sym right)
+
+-- lists of energies with the same prices have the same price at each place
+pub same_at : (fs gs : List Energy) (k : ℕ) (f : Energy) → length fs ≡ length gs → k < length fs → prices_of fs ≡ prices_of gs
+    → price_of (get_or fs k f).parts ≡ price_of (get_or gs k f).parts
+same_at fs gs k f long below same =
+    let d = price_of f.parts in
+    sym (price-prices_of fs k f d below) ∙ ap (λ ps. get_or ps k d) same ∙ price-prices_of gs k f d (omega arith)
 
 -- whether some energy's price is at most e
 some_covers-prices_of : (e : Price) (fs : List Energy) → list_any (λ f. is_at_most (price_of f.parts) e) fs ≡ some_covers (prices_of fs) e

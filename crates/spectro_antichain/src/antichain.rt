@@ -96,6 +96,20 @@ impl Antichain {
         Ok(true)
     }
 
+    /// Drops all members. Its memory is kept for the next ones.
+    pub fn clear(&mut self)
+        ensures { self.new ≡ [] }
+    {
+        self.energies.clear();
+    }
+
+    /// Whether both have the same members.
+    pub fn is_same(&self, other: &Antichain) -> bool
+        ensures { IsTrue result ↔ self.now ≡ other.now }
+    {
+        are_same(self.energies.as_slice(), other.energies.as_slice())
+    }
+
     /// An antichain of the same members, in memory of its own.
     pub fn copy(&self) -> Result<Antichain, AllocError>
         ensures { IfOk result (λ copy. copy ≡ self.now) }
@@ -140,6 +154,21 @@ fn insert_sups(made: &mut Antichain, e: Energy, others: &Antichain) -> Result<()
         made.insert(e.sup(others.item(k)))?;
     }
     Ok(())
+}
+
+// Whether both have the same energies in the same order.
+fn are_same(left: &[Energy], right: &[Energy]) -> bool
+    ensures { IsTrue result ↔ prices_of left.now ≡ prices_of right.now }
+{
+    if left.len() != right.len() {
+        return false;
+    }
+    for k in 0..left.len() {
+        if left[k].lex(right[k]) != Ordering::Equal {
+            return false;
+        }
+    }
+    true
 }
 
 // Drops the members that `e` is at most.
