@@ -1,0 +1,9 @@
+use Rattle.std.proofs.Common.{◌+◌, leb, get_or}
+use Rattle.std.proofs.lemmas.Bool.{leb-true, le-leb}
+use Rattle.spectro_lanes.proofs.Vectors.{selected_right, one_where}
+use Rattle.spectro_lanes.proofs.lanes.kept_above.Goals as goal
+
+pub returns : goal.returns
+returns c i low =
+    one_where (leb c.args.bound (get_or c.args.numbers.now (c.args.at + i) 0)) _ _ (get_or c.args.kept i 0) (leb-true _ _, le-leb _ _)
+    (selected_right leb c.args.kept c.args.numbers.now c.args.at c.args.bound i c.fits-kept.0 c.requires low)

@@ -1,0 +1,136 @@
+// Eight members at a time, in vectors of eight numbers.
+ghost use Rattle.std.specs.Prelude.{◌≡◌, ◌↔◌, ℕ, ◌+◌, ◌*◌, ◌<◌, ◌≤◌, ◌≢◌, length, slice_index};
+ghost use Rattle.spectro_spec.specs.Price.{IsAtMost};
+ghost use Rattle.spectro_energy.specs.Energy.{price_of};
+ghost use Rattle.spectro_lanes.specs.Columns.{price_at, IsFirst};
+
+use spectro_energy::Energy;
+use std::simd::prelude::*;
+
+// how many members one vector has a part of
+const LANES: usize = 8;
+
+// The energy whose parts stand in row `k`.
+#[inline(always)]
+pub(crate) fn energy_at(numbers: &[u32], stride: usize, k: usize) -> Energy
+    requires whole { length numbers.now ≡ 7 * stride }
+    requires room { k < stride }
+    ensures { price_of result.parts ≡ price_at stride numbers.now k }
+{
+    Energy {
+        parts: [
+            numbers[k],
+            numbers[stride + k],
+            numbers[2 * stride + k],
+            numbers[3 * stride + k],
+            numbers[4 * stride + k],
+            numbers[5 * stride + k],
+            numbers[6 * stride + k],
+        ],
+    }
+}
+
+// A lane of the result is 1 exactly where it was and its number is at most the bound.
+#[inline(always)]
+fn kept_below(kept: u32x8, numbers: &[u32], at: usize, bound: u32) -> u32x8
+    requires { at + 8 ≤ length numbers.now }
+    ensures { (i : ℕ) → i < 8 → slice_index result i ≡ 1 ↔ (slice_index kept i ≡ 1) × (slice_index numbers.now (at + i) ≤ bound) }
+{
+    u32x8::from_slice(&numbers[at..])
+        .simd_le(u32x8::splat(bound))
+        .select(kept, u32x8::splat(0))
+}
+
+// Lane `i` is 1 exactly where member `k + i` is at most `e`.
+#[inline(always)]
+fn lanes_below(numbers: &[u32], stride: usize, k: usize, e: Energy) -> u32x8
+    requires whole { length numbers.now ≡ 7 * stride }
+    requires room { k + 8 ≤ stride }
+    ensures { (i : ℕ) → i < 8 → slice_index result i ≡ 1 ↔ IsAtMost (price_at stride numbers.now (k + i)) (price_of e.parts) }
+{
+    let mut kept = u32x8::splat(1);
+    for part in 0..7 {
+        kept = kept_below(kept, numbers, part * stride + k, e.parts[part]);
+    }
+    kept
+}
+
+// A lane of the result is 1 exactly where it was and its number is at least the bound.
+#[inline(always)]
+fn kept_above(kept: u32x8, numbers: &[u32], at: usize, bound: u32) -> u32x8
+    requires { at + 8 ≤ length numbers.now }
+    ensures { (i : ℕ) → i < 8 → slice_index result i ≡ 1 ↔ (slice_index kept i ≡ 1) × (bound ≤ slice_index numbers.now (at + i)) }
+{
+    u32x8::from_slice(&numbers[at..])
+        .simd_ge(u32x8::splat(bound))
+        .select(kept, u32x8::splat(0))
+}
+
+// Lane `i` is 1 exactly where `e` is at most member `k + i`.
+#[inline(always)]
+fn lanes_above(numbers: &[u32], stride: usize, k: usize, e: Energy) -> u32x8
+    requires whole { length numbers.now ≡ 7 * stride }
+    requires room { k + 8 ≤ stride }
+    ensures { (i : ℕ) → i < 8 → slice_index result i ≡ 1 ↔ IsAtMost (price_of e.parts) (price_at stride numbers.now (k + i)) }
+{
+    let mut kept = u32x8::splat(1);
+    for part in 0..7 {
+        kept = kept_above(kept, numbers, part * stride + k, e.parts[part]);
+    }
+    kept
+}
+
+// The first lane that is 1, or 8 where there is none.
+#[inline(always)]
+fn first_one(kept: u32x8) -> usize
+    ensures { IsFirst (λ i. slice_index kept i ≡ 1) 8 result }
+{
+    let ones = kept.simd_eq(u32x8::splat(1)).to_bitmask();
+    if ones == 0 {
+        return LANES;
+    }
+    ones.trailing_zeros() as usize
+}
+
+// The first of the members from `k` on that is at most `e`, or 8 where none of the eight is.
+#[inline(always)]
+fn first_below_of_eight(numbers: &[u32], stride: usize, k: usize, e: Energy) -> usize
+    requires whole { length numbers.now ≡ 7 * stride }
+    requires room { k + 8 ≤ stride }
+    ensures { IsFirst (λ i. IsAtMost (price_at stride numbers.now (k + i)) (price_of e.parts)) 8 result }
+{
+    first_one(lanes_below(numbers, stride, k, e))
+}
+
+// The first of the members from `k` on that `e` is at most, or 8 where it is at most none of the eight.
+#[inline(always)]
+fn first_above_of_eight(numbers: &[u32], stride: usize, k: usize, e: Energy) -> usize
+    requires whole { length numbers.now ≡ 7 * stride }
+    requires room { k + 8 ≤ stride }
+    ensures { IsFirst (λ i. IsAtMost (price_of e.parts) (price_at stride numbers.now (k + i))) 8 result }
+{
+    first_one(lanes_above(numbers, stride, k, e))
+}
+
+// The first of the `n` members that is at most `e`, or `n` where there is none.
+pub(crate) fn first_below(numbers: &[u32], stride: usize, n: usize, e: Energy) -> usize
+    requires whole { length numbers.now ≡ 7 * stride }
+    requires room { n ≤ stride }
+    ensures { IsFirst (λ i. IsAtMost (price_at stride numbers.now i) (price_of e.parts)) n result }
+{
+    let mut k = 0;
+    while n - k >= LANES {
+        let first = first_below_of_eight(numbers, stride, k, e);
+        if first < LANES {
+            return k + first;
+        }
+        k += LANES;
+    }
+    while k < n {
+        if energy_at(numbers, stride, k).leq(e) {
+            return k;
+        }
+        k += 1;
+    }
+    n
+}

@@ -1,0 +1,4 @@
+//! Antichains in columns: minimal energies, eight at a time.
+#![tactic(auto)]
+
+mod lanes;
