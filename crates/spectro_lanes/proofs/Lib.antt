@@ -1,2 +1,4 @@
 pub mod Vectors
 pub mod First
+pub mod Marks
+pub mod Rows

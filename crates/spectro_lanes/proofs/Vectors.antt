@@ -1,45 +1,71 @@
 -- What a vector of eight numbers holds after a comparison with a bound.
-use Rattle.std.proofs.Common.{ℕ, ◌≡◌, ◌+◌, ◌-◌, ◌^◌, ◌<◌, ◌≤◌, List, length, refl, sym, ap, ◌∙◌, Bool, true, false, cond, get_or, replicate, arith, w32, map, below_more, ◌%◌, eqb, subst, not, lit≤, ◌≢◌}
+use Rattle.std.proofs.Common.{ℕ, ◌≡◌, ◌+◌, ◌-◌, ◌^◌, ◌<◌, ◌≤◌, List, length, refl, sym, ap, ◌∙◌, Bool, true, false, cond, get_or, replicate, arith, w32, map, below_more, ◌%◌, eqb, subst, not, lit≤, ◌≢◌, ltb, max}
 use Rattle.std.specs.Prelude.{◌↔◌}
 use Rattle.std.specs.Bool.{Decides}
 use Rattle.std.specs.Int.Count.{count_trailing_zeros}
 use Rattle.std.specs.List.{prefix_len}
 use Rattle.std.specs.Simd.Lanes.{zip2, sel_l, mask_l, top, chunk}
 use Rattle.std.proofs.lemmas.Bool.{true≢false, not-false, not-true}
-use Rattle.std.proofs.lemmas.Bool.Decides.{Decides-eqb, Decides-not}
+use Rattle.std.proofs.lemmas.Bool.Decides.{Decides-eqb, Decides-not, nat_tests}
 use Rattle.std.proofs.lemmas.List.Sums.{prefix_len-le-length, prefix_len_passes, prefix_len_stops}
 use Rattle.spectro_lanes.specs.Columns.{IsFirst}
-use Rattle.std.proofs.lemmas.Simd.{bitmask_splat, first_set_mask_l, tops_compared, get_or-sel_l, get_or-zip2, get_or-chunk, length-chunk, length-zip2, get_or-replicate}
+use Rattle.std.proofs.lemmas.Simd.{bitmask_splat, first_set_mask_l, tops_compared, get_or-sel_l, length-sel_l, get_or-zip2, get_or-chunk, length-chunk, length-zip2, get_or-replicate}
 
--- the lane that is kept where the test holds, and 0 where it does not
-selected : (t : ℕ → ℕ → Bool) (kept xs ys : List ℕ) (i : ℕ) → length kept ≡ 8 → length xs ≡ 8 → length ys ≡ 8 → i < 8
-    → get_or (sel_l (map (top 31) (zip2 (λ a b. cond (t a b) (2 ^ 32 - 1) 0) xs ys)) kept (replicate 8 0)) i 0
-    ≡ cond (t (get_or xs i 0) (get_or ys i 0)) (get_or kept i 0) 0
-selected t kept xs ys i eight left right low =
+-- the lane of the one list where the test holds, and of the other where it does not
+selected : (t : ℕ → ℕ → Bool) (xs ys us vs : List ℕ) (i : ℕ) → length xs ≡ 8 → length ys ≡ 8 → length us ≡ 8 → length vs ≡ 8 → i < 8
+    → get_or (sel_l (map (top 31) (zip2 (λ a b. cond (t a b) (2 ^ 32 - 1) 0) xs ys)) us vs) i 0
+    ≡ cond (t (get_or xs i 0) (get_or ys i 0)) (get_or us i 0) (get_or vs i 0)
+selected t xs ys us vs i left right chosen other low =
     let tests = zip2 t xs ys in
     let long : length tests ≡ 8 = length-zip2 t xs ys (omega arith) ∙ left in
     let test : get_or tests i false ≡ t (get_or xs i 0) (get_or ys i 0) = get_or-zip2 t xs ys i 0 0 false (omega arith) (omega arith) in
-    ap (λ ms. get_or (sel_l ms kept (replicate 8 0)) i 0) (tops_compared w32 t xs ys)
-    ∙ get_or-sel_l tests kept (replicate 8 0) i 0 (omega arith) (omega arith) low
-    ∙ ap (λ b. cond b (get_or kept i 0) (get_or (replicate 8 0) i 0)) test
-    ∙ ap (cond (t (get_or xs i 0) (get_or ys i 0)) (get_or kept i 0)) (get_or-replicate 8 i 0 0 low)
+    ap (λ ms. get_or (sel_l ms us vs) i 0) (tops_compared w32 t xs ys)
+    ∙ get_or-sel_l tests us vs i 0 (omega arith) (omega arith) (omega arith)
+    ∙ ap (λ b. cond b (get_or us i 0) (get_or vs i 0)) test
 
--- the same of eight numbers of a list and of one bound, on either side
+-- eight numbers of a list under a test of each with one bound, on either side
 pub selected_left : (t : ℕ → ℕ → Bool) (kept numbers : List ℕ) (at bound i : ℕ) → length kept ≡ 8 → at + 8 ≤ length numbers → i < 8
     → get_or (sel_l (map (top 31) (zip2 (λ a b. cond (t a b) (2 ^ 32 - 1) 0) (chunk at 8 numbers) (replicate 8 bound))) kept (replicate 8 0)) i 0
     ≡ cond (t (get_or numbers (at + i) 0) bound) (get_or kept i 0) 0
 selected_left t kept numbers at bound i eight room low =
-    selected t kept (chunk at 8 numbers) (replicate 8 bound) i eight (length-chunk at 8 numbers room) refl low
-    ∙ ap (λ x. cond (t x (get_or (replicate 8 bound) i 0)) (get_or kept i 0) 0) (get_or-chunk at 8 numbers i 0 low)
-    ∙ ap (λ y. cond (t (get_or numbers (at + i) 0) y) (get_or kept i 0) 0) (get_or-replicate 8 i bound 0 low)
+    selected t (chunk at 8 numbers) (replicate 8 bound) kept (replicate 8 0) i (length-chunk at 8 numbers room) refl eight refl low
+    ∙ ap (λ x. cond (t x (get_or (replicate 8 bound) i 0)) (get_or kept i 0) (get_or (replicate 8 0) i 0)) (get_or-chunk at 8 numbers i 0 low)
+    ∙ ap (λ y. cond (t (get_or numbers (at + i) 0) y) (get_or kept i 0) (get_or (replicate 8 0) i 0)) (get_or-replicate 8 i bound 0 low)
+    ∙ ap (cond (t (get_or numbers (at + i) 0) bound) (get_or kept i 0)) (get_or-replicate 8 i 0 0 low)
 
 pub selected_right : (t : ℕ → ℕ → Bool) (kept numbers : List ℕ) (at bound i : ℕ) → length kept ≡ 8 → at + 8 ≤ length numbers → i < 8
     → get_or (sel_l (map (top 31) (zip2 (λ a b. cond (t a b) (2 ^ 32 - 1) 0) (replicate 8 bound) (chunk at 8 numbers))) kept (replicate 8 0)) i 0
     ≡ cond (t bound (get_or numbers (at + i) 0)) (get_or kept i 0) 0
 selected_right t kept numbers at bound i eight room low =
-    selected t kept (replicate 8 bound) (chunk at 8 numbers) i eight refl (length-chunk at 8 numbers room) low
-    ∙ ap (λ y. cond (t (get_or (replicate 8 bound) i 0) y) (get_or kept i 0) 0) (get_or-chunk at 8 numbers i 0 low)
-    ∙ ap (λ x. cond (t x (get_or numbers (at + i) 0)) (get_or kept i 0) 0) (get_or-replicate 8 i bound 0 low)
+    selected t (replicate 8 bound) (chunk at 8 numbers) kept (replicate 8 0) i refl (length-chunk at 8 numbers room) eight refl low
+    ∙ ap (λ y. cond (t (get_or (replicate 8 bound) i 0) y) (get_or kept i 0) (get_or (replicate 8 0) i 0)) (get_or-chunk at 8 numbers i 0 low)
+    ∙ ap (λ x. cond (t x (get_or numbers (at + i) 0)) (get_or kept i 0) (get_or (replicate 8 0) i 0)) (get_or-replicate 8 i bound 0 low)
+    ∙ ap (cond (t bound (get_or numbers (at + i) 0)) (get_or kept i 0)) (get_or-replicate 8 i 0 0 low)
+
+-- the greater of each of eight numbers of a list and a bound
+abbrev pub greater_lanes : List ℕ → ℕ → ℕ → List ℕ
+greater_lanes numbers at bound =
+    sel_l (map (top 31) (zip2 (λ a b. cond (ltb a b) (2 ^ 32 - 1) 0) (chunk at 8 numbers) (replicate 8 bound))) (replicate 8 bound) (chunk at 8 numbers)
+
+greater_of : (x y : ℕ) → cond (ltb x y) y x ≡ max x y
+greater_of x y = grind (arith, nat_tests)
+
+pub length-greater_lanes : (numbers : List ℕ) (at bound : ℕ) → at + 8 ≤ length numbers → length (greater_lanes numbers at bound) ≡ 8
+length-greater_lanes numbers at bound room =
+    let loaded = length-chunk at 8 numbers room in
+    let tests = zip2 ltb (chunk at 8 numbers) (replicate 8 bound) in
+    let long : length tests ≡ 8 = length-zip2 ltb (chunk at 8 numbers) (replicate 8 bound) loaded ∙ loaded in
+    ap (λ ms. length (sel_l ms (replicate 8 bound) (chunk at 8 numbers))) (tops_compared w32 ltb (chunk at 8 numbers) (replicate 8 bound))
+    ∙ length-sel_l tests (replicate 8 bound) (chunk at 8 numbers) long (omega arith) ∙ long
+
+pub get_or-greater_lanes : (numbers : List ℕ) (at bound i : ℕ) → at + 8 ≤ length numbers → i < 8
+    → get_or (greater_lanes numbers at bound) i 0 ≡ max (get_or numbers (at + i) 0) bound
+get_or-greater_lanes numbers at bound i room low =
+    let loaded = length-chunk at 8 numbers room in
+    selected ltb (chunk at 8 numbers) (replicate 8 bound) (replicate 8 bound) (chunk at 8 numbers) i loaded refl refl loaded low
+    ∙ greater_of (get_or (chunk at 8 numbers) i 0) (get_or (replicate 8 bound) i 0)
+    ∙ ap (λ x. max x (get_or (replicate 8 bound) i 0)) (get_or-chunk at 8 numbers i 0 low)
+    ∙ ap (max (get_or numbers (at + i) 0)) (get_or-replicate 8 i bound 0 low)
 
 -- a lane that was kept under a test is 1 exactly where it was and the test holds
 pub one_where : (answer : Bool) (holds : Type 0) (lane kept : ℕ) → Decides answer holds → lane ≡ cond answer kept 0 → lane ≡ 1 ↔ (kept ≡ 1) × holds

@@ -1,5 +1,5 @@
 // Eight members at a time, in vectors of eight numbers.
-ghost use Rattle.std.specs.Prelude.{◌≡◌, ◌↔◌, ℕ, ◌+◌, ◌*◌, ◌<◌, ◌≤◌, ◌≢◌, length, slice_index};
+ghost use Rattle.std.specs.Prelude.{◌≡◌, ◌↔◌, ℕ, ◌+◌, ◌*◌, ◌<◌, ◌≤◌, length, slice_index, slice_index_or, IsTrue, false};
 ghost use Rattle.spectro_spec.specs.Price.{IsAtMost};
 ghost use Rattle.spectro_energy.specs.Energy.{price_of};
 ghost use Rattle.spectro_lanes.specs.Columns.{price_at, IsFirst};
@@ -8,7 +8,7 @@ use spectro_energy::Energy;
 use std::simd::prelude::*;
 
 // how many members one vector has a part of
-const LANES: usize = 8;
+pub(crate) const LANES: usize = 8;
 
 // The energy whose parts stand in row `k`.
 #[inline(always)]
@@ -133,4 +133,58 @@ pub(crate) fn first_below(numbers: &[u32], stride: usize, n: usize, e: Energy) -
         k += 1;
     }
     n
+}
+
+// The first of the `n` members that `e` is at most, or `n` where there is none.
+pub(crate) fn first_above(numbers: &[u32], stride: usize, n: usize, e: Energy) -> usize
+    requires whole { length numbers.now ≡ 7 * stride }
+    requires room { n ≤ stride }
+    ensures { IsFirst (λ i. IsAtMost (price_of e.parts) (price_at stride numbers.now i)) n result }
+{
+    let mut k = 0;
+    while n - k >= LANES {
+        let first = first_above_of_eight(numbers, stride, k, e);
+        if first < LANES {
+            return k + first;
+        }
+        k += LANES;
+    }
+    while k < n {
+        if e.leq(energy_at(numbers, stride, k)) {
+            return k;
+        }
+        k += 1;
+    }
+    n
+}
+
+// Marks the eight places from `k` on at which the lane is 1.
+#[inline(always)]
+fn mark_eight(kept: u32x8, k: usize, marks: &mut [bool])
+    requires { k + 8 ≤ length marks.old }
+    ensures here { (i : ℕ) → i < 8 → IsTrue (slice_index_or marks.new (k + i) false) ↔ slice_index kept i ≡ 1 }
+    ensures before { (i : ℕ) → i < k → slice_index_or marks.new i false ≡ slice_index_or marks.old i false }
+{
+    let lanes = kept.to_array();
+    for i in 0..LANES {
+        marks[k + i] = lanes[i] == 1;
+    }
+}
+
+// Place `k` becomes whether `e` is at most member `k`.
+pub(crate) fn mark_above(numbers: &[u32], stride: usize, e: Energy, marks: &mut [bool])
+    requires whole { length numbers.now ≡ 7 * stride }
+    requires room { length marks.old ≤ stride }
+    ensures { (i : ℕ) → i < length marks.new → IsTrue (slice_index_or marks.new i false) ↔ IsAtMost (price_of e.parts) (price_at stride numbers.now i) }
+{
+    let n = marks.len();
+    let mut k = 0;
+    while n - k >= LANES {
+        mark_eight(lanes_above(numbers, stride, k, e), k, marks);
+        k += LANES;
+    }
+    while k < n {
+        marks[k] = e.leq(energy_at(numbers, stride, k));
+        k += 1;
+    }
 }

@@ -1,4 +1,5 @@
 //! Antichains in columns: minimal energies, eight at a time.
 #![tactic(auto)]
 
+mod copies;
 mod lanes;
