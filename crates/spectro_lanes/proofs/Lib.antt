@@ -1,4 +1,5 @@
 pub mod Vectors
 pub mod First
 pub mod Marks
-pub mod Rows
+pub mod Places
+pub mod Lists

@@ -2,4 +2,5 @@
 #![tactic(auto)]
 
 mod copies;
+mod edits;
 mod lanes;

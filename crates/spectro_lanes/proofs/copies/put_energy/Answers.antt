@@ -1,5 +1,5 @@
 use Rattle.std.proofs.Common.{arith, get_or}
-use Rattle.spectro_lanes.proofs.Rows.{row_more, rows_stay}
+use Rattle.spectro_lanes.proofs.Places.{row_more, rows_stay}
 use Rattle.spectro_lanes.proofs.copies.put_energy.Goals as goal
 
 pub loop-part-preserved : goal.loop-part-preserved

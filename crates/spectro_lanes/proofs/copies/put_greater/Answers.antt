@@ -1,5 +1,5 @@
 use Rattle.std.proofs.Common.{◌+◌, ◌<◌, ◌≤◌, ◌⊎◌, ◌∙◌, arith, inl, inr}
-use Rattle.spectro_lanes.proofs.Rows.{greater_more}
+use Rattle.spectro_lanes.proofs.Places.{greater_more}
 use Rattle.spectro_lanes.proofs.copies.put_greater.Goals as goal
 
 pub loop-k-preserved : goal.loop-k-preserved

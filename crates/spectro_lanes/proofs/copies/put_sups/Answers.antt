@@ -1,5 +1,5 @@
 use Rattle.std.proofs.Common.{◌+◌, ◌*◌, ◌∙◌}
-use Rattle.spectro_lanes.proofs.Rows.{columns_more, beside}
+use Rattle.spectro_lanes.proofs.Places.{columns_more, beside}
 use Rattle.spectro_lanes.proofs.copies.put_sups.Goals as goal
 
 pub loop-part-preserved : goal.loop-part-preserved
