@@ -1,13 +1,19 @@
 -- Lists of prices by place.
-use Rattle.std.proofs.Common.{ℕ, ◌≡◌, ◌+◌, ◌-◌, ◌<◌, ◌≤◌, List, [], ◌∷◌, ◌++◌, length, length-append, map, take, drop, refl, sym, ap, ◌∙◌, subst, inl, inr, suc, zero, arith, Bool, true, false, cond, get_or}
-use Rattle.std.specs.List.{insert, range_with_len}
+use Rattle.std.proofs.Common.{ℕ, ◌≡◌, ◌+◌, ◌-◌, ◌<◌, ◌≤◌, List, [], ◌∷◌, ◌++◌, length, length-append, map, take, drop, refl, sym, ap, ◌∙◌, subst, inl, inr, suc, zero, arith, Bool, true, false, cond, get_or, not, ltb, max, Some, None, IsTrue}
+use Rattle.std.specs.Bool.{Decides}
+use Rattle.std.specs.Prelude.{◌↔◌}
+use Rattle.std.specs.List.{insert, range_with_len, position, prefix_len}
 use Rattle.std.proofs.lemmas.Bool.{cases_lt}
+use Rattle.std.proofs.lemmas.Bool.Decides.{Decides-ltb, same_from_decides}
+use Rattle.std.proofs.lemmas.Simd.{map-map}
+use Rattle.std.proofs.lemmas.List.Sums.{prefix_len_is}
 use Rattle.std.proofs.lemmas.List.{get_or_append_left, get_or-append_right, length-map}
 use Rattle.std.proofs.lemmas.List.Edits.{get_or-insert_at, get_or-insert_below, get_or-insert_above, length-insert}
 use Rattle.std.proofs.lemmas.List.FromFn.{fill_by_all, length-map-range_with_len, get_or-map-range_with_len, take-map-range_with_len, map-range_with_len_more}
 use Rattle.spectro_spec.specs.Price.{Price, IsAtMost, ComesBefore, parts}
 use Rattle.spectro_game.specs.MinimalElements.{is_at_most, precedes, not_above, placed_price}
-use Rattle.spectro_game.specs.Sup.{zero_price}
+use Rattle.spectro_game.specs.Sup.{sup, zero_price}
+use Rattle.spectro_spec.specs.LeastPrices.{Covers}
 use Rattle.spectro_theory.proofs.MinimalElements.{by_test, is_at_most-Decides, precedes-Decides}
 use Rattle.spectro_lanes.specs.Columns.{IsFirst}
 
@@ -24,6 +30,13 @@ firsts-same f g n same =
 
 pub firsts-more : (f : ℕ → Price) (n : ℕ) → firsts f (n + 1) ≡ firsts f n ++ f n ∷ []
 firsts-more f n = map-range_with_len_more f 0 n n (omega arith)
+
+pub length-firsts : (f : ℕ → Price) (n : ℕ) → length (firsts f n) ≡ n
+length-firsts f n = length-map-range_with_len f 0 n
+
+-- where g goes on from f by one
+pub firsts-push : (f g : ℕ → Price) (n : ℕ) (e : Price) → ((i : ℕ) → i < n → g i ≡ f i) → g n ≡ e → firsts g (n + 1) ≡ firsts f n ++ e ∷ []
+firsts-push f g n e same here = firsts-more g n ∙ ap (λ ps. ps ++ g n ∷ []) (firsts-same g f n same) ∙ ap (λ p. firsts f n ++ p ∷ []) here
 
 -- where g goes on from f by h
 pub firsts-append : (f g h : ℕ → Price) (n m : ℕ) → ((i : ℕ) → i < n → g i ≡ f i) → ((i : ℕ) → i < m → g (n + i) ≡ h i)
@@ -119,3 +132,63 @@ IsFirst-firsts P f n k first = subst (λ m. IsFirst (λ i. P (get_or (firsts f n
 
 pub placed-firsts : (e : Price) (f : ℕ → Price) (n p : ℕ) → IsFirst (λ i. ComesBefore e (f i)) n p → insert (firsts f n) p e ≡ placed_price e (firsts f n)
 placed-firsts e f n p first = placed_first e (firsts f n) p (IsFirst-firsts (ComesBefore e) f n p first)
+
+-- whether some of the first n is at most e, by the place of the first
+pub covers_first : (e : Price) (f : ℕ → Price) (n k : ℕ) → IsFirst (λ i. IsAtMost (f i) e) n k → (k < n) ↔ Covers (firsts f n) e
+covers_first e f n k first = (there, back)
+  where
+    there : k < n → Covers (firsts f n) e
+    there low = (f k, (k, omega (arith, length-firsts f n), get_or-firsts f n k (f k) low), first.at low)
+
+    back : Covers (firsts f n) e → k < n
+    back (x, (i, low, at), below) = elim (cases_lt k n) [
+      | inl short ↦ short
+      | inr all ↦
+          let here : i < n = omega (arith, length-firsts f n) in
+          absurd (first.before i (omega arith) (subst (λ y. IsAtMost y e) (sym at ∙ get_or-firsts f n i x here) below))
+    ]
+
+-- the place of the first that is at most e
+position_first : (e : Price) (f : ℕ → Price) (n k : ℕ) → IsFirst (λ i. IsAtMost (f i) e) n k
+    → position (λ p. is_at_most p e) (firsts f n) ≡ cond (ltb k n) (Some k) None
+position_first e f n k first =
+    let p = λ (x : Price). not (is_at_most x e) in
+    let found : prefix_len p (firsts f n) ≡ k = prefix_len_is p (firsts f n) k zero_price (omega (arith, first.bound, length-firsts f n))
+        (λ i low. ap (λ x. not (is_at_most x e)) (get_or-firsts f n i zero_price (omega (arith, first.bound)))
+        ∙ ap not (false_from_not (is_at_most (f i) e) (is_at_most-Decides (f i) e) (first.before i low)))
+        (λ short. let low : k < n = omega (arith, length-firsts f n) in ap (λ x. not (is_at_most x e)) (get_or-firsts f n k zero_price low)
+        ∙ ap not ((is_at_most-Decides (f k) e).1 (first.at low))) in
+    ap (λ m. cond (ltb m (length (firsts f n))) (Some m) None) found ∙ ap (λ m. cond (ltb k m) (Some k) None) (length-firsts f n)
+  where
+    false_from_not : {P : Type 0} (b : Bool) → Decides b P → ¬ P → b ≡ false
+    false_from_not true told none = absurd (none (told.0 refl))
+    false_from_not false told none = refl
+
+pub position_some : (e : Price) (f : ℕ → Price) (n k : ℕ) → IsFirst (λ i. IsAtMost (f i) e) n k → k < n → Some k ≡ position (λ p. is_at_most p e) (firsts f n)
+position_some e f n k first low = sym (position_first e f n k first ∙ by_test (λ b. cond b (Some k) None ≡ Some k) (ltb k n) (Decides-ltb k n) (λ _. refl) (λ no. absurd (no low)))
+
+pub position_none : (e : Price) (f : ℕ → Price) (n k : ℕ) → IsFirst (λ i. IsAtMost (f i) e) n k → ¬ (k < n) → None ≡ position (λ p. is_at_most p e) (firsts f n)
+position_none e f n k first all = sym (position_first e f n k first ∙ by_test (λ b. cond b (Some k) None ≡ None) (ltb k n) (Decides-ltb k n) (λ low. absurd (all low)) (λ _. refl))
+
+-- marks of each of the first n
+pub marks_are : (e : Price) (f : ℕ → Price) (n : ℕ) (marks : List Bool) → length marks ≡ n
+    → ((i : ℕ) → i < length marks → IsTrue (get_or marks i false) ↔ IsAtMost e (f i)) → marks ≡ map (is_at_most e) (firsts f n)
+marks_are e f n marks long told =
+    fill_by_all (λ i. is_at_most e (f i)) marks n false long
+    (λ k low. same_from_decides (get_or marks k false) (is_at_most e (f k)) (told k (omega (arith, long))) (is_at_most-Decides e (f k)))
+    ∙ sym (map-map (is_at_most e) f (range_with_len 0 n))
+
+-- the sup with nothing is the energy itself
+pub sup-zero : (e : Price) → sup e zero_price ≡ e
+sup-zero e = λ i. record {
+  observations = nothing e.observations i;
+  conjunctions = nothing e.conjunctions i;
+  deepest_positive = nothing e.deepest_positive i;
+  other_positive = nothing e.other_positive i;
+  deepest_negative = nothing e.deepest_negative i;
+  negations = nothing e.negations i;
+  weighted_depth = nothing e.weighted_depth i;
+}
+  where
+    nothing : (n : ℕ) → max n 0 ≡ n
+    nothing n = omega arith
