@@ -1,9 +1,12 @@
--- The members of a buffer.
-use Rattle.std.specs.Prelude.{List}
+-- What the members of an antichain are kept in.
+use Rattle.std.specs.Prelude.{List, [], ◌∷◌}
 use Rattle.spectro_spec.specs.Price.{Price}
-use Rattle.spectro_lanes.specs.Columns.{prices_in}
-use Rattle.spectro_lanes.specs.declared.buffer.Buffer.{Buffer}
+use Rattle.spectro_energy.specs.Energy.{price_of}
+use Rattle.spectro_lanes.specs.declared.members.Members.{Members}
+use Rattle.spectro_lanes.specs.declared.members.Members.TheVariants.{Empty, One, Many}
 
--- the prices of its members, in order
-abbrev pub members_of : Buffer → List Price
-members_of buffer = prices_in buffer.stride buffer.numbers.items buffer.len
+-- their prices, in order
+abbrev pub prices_held : Members → List Price
+prices_held Empty = []
+prices_held (One e) = price_of e.parts ∷ []
+prices_held (Many es) = es

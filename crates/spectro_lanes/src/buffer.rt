@@ -29,7 +29,7 @@ impl Buffer {
     ghost use Rattle.spectro_game.specs.MinimalElements.{not_above, placed_price};
     ghost use Rattle.spectro_game.specs.Sup.{sup};
     ghost use Rattle.spectro_energy.specs.Energy.{price_of};
-    ghost use Rattle.spectro_lanes.specs.Members.{members_of};
+    ghost use Rattle.spectro_lanes.specs.Buffer.{members_of};
 
     pub(crate) fn new(alloc: Global) -> Buffer
         ensures { members_of result ≡ [] }

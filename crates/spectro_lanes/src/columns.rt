@@ -1,7 +1,7 @@
-ghost use Rattle.std.specs.Prelude.{◌≡◌, ◌↔◌, ◌<◌, List, [], ◌∷◌, ◌++◌, length, map, slice_index_or, position, IsTrue, false, IfOk, OnOk, OnErr};
+ghost use Rattle.std.specs.Prelude.{◌≡◌, ◌↔◌, ◌<◌, List, [], ◌∷◌, ◌++◌, length, map, slice_index_or, position, IsTrue, IfOk, OnOk, OnErr};
 ghost use Rattle.spectro_spec.specs.Price.{Price};
 ghost use Rattle.spectro_spec.specs.LeastPrices.{Covers};
-ghost use Rattle.spectro_game.specs.MinimalElements.{is_at_most, inserted};
+ghost use Rattle.spectro_game.specs.MinimalElements.{is_at_most, not_above, placed_price};
 ghost use Rattle.spectro_game.specs.Sup.{sup};
 ghost use Rattle.spectro_energy.specs.Energy.{price_of};
 
@@ -20,7 +20,7 @@ pub struct Columns {
 impl Model for Columns {
     ghost use Rattle.std.specs.Prelude.{List};
     ghost use Rattle.spectro_spec.specs.Price.{Price};
-    ghost use Rattle.spectro_lanes.specs.Members.{members_of};
+    ghost use Rattle.spectro_lanes.specs.Buffer.{members_of};
 
     ghost Value = { List Price };
 
@@ -108,21 +108,16 @@ impl Columns {
         first < buffer.len
     }
 
-    /// Adds `e` in its place unless a member is at most it, and drops the members that `e` is at most.
-    /// Answers whether `e` was added. Memory is taken before anything changes, and only for one that is added.
-    pub(crate) fn insert(&mut self, e: Energy) -> Result<bool, AllocError>
-        ensures covered { IfOk result (λ added. added ≡ false ↔ Covers self.old (price_of e.parts)) }
-        ensures list { OnOk result (self.new ≡ inserted (price_of e.parts) self.old) }
+    /// Drops the members that `e` is at most, and puts `e` before the first that it comes before.
+    /// Memory is taken before anything changes.
+    pub(crate) fn place(&mut self, e: Energy) -> Result<(), AllocError>
+        ensures list { OnOk result (self.new ≡ placed_price (price_of e.parts) (not_above (price_of e.parts) self.old)) }
         ensures err { OnErr result (self.new ≡ self.old) }
-        ensures cause { OnErr result (¬ Covers self.old (price_of e.parts)) }
     {
-        if self.covers(e) {
-            return Ok(false);
-        }
         self.buffer.reserve(1)?;
         self.buffer.drop_above(e);
         self.buffer.put_in_place(e);
-        Ok(true)
+        Ok(())
     }
 
     /// Drops all members. Its memory is kept for the next ones.

@@ -1,0 +1,30 @@
+use Rattle.std.proofs.Common.{◌≡◌, ◌∙◌, ap, sym, subst}
+use Rattle.std.proofs.lemmas.Bool.{true≢false}
+use Rattle.spectro_spec.specs.LeastPrices.{Rises, AreApart}
+use Rattle.spectro_game.specs.MinimalElements.{inserted, not_above, placed_price}
+use Rattle.spectro_energy.specs.Energy.{price_of}
+use Rattle.spectro_antichain.proofs.Prices.{inserted-covered, inserted-new, inserted-antichain}
+use Rattle.spectro_lanes.specs.Members.{prices_held}
+use Rattle.spectro_lanes.proofs.antichain.Antichain.insert.Goals as goal
+
+-- what is not covered is put in its place
+listed : (c : goal.In_ok-place) → prices_held c.place.new.self ≡ inserted (price_of c.args.e.parts) c.args.self.now
+listed c =
+    let e = price_of c.args.e.parts in
+    c.in_ok-place.ensures.list
+    ∙ ap (λ es. placed_price e (not_above e es)) c.self.view_is
+    ∙ inserted-new e c.args.self.now (λ covered. true≢false (sym (c.covers.ensures.1 covered) ∙ c.if-covers.false))
+
+pub returns-then-covers-clause-list : goal.returns-then-covers-clause-list
+returns-then-covers-clause-list c = inserted-covered (price_of c.args.e.parts) c.args.self.now (c.covers.ensures.0 c.if-covers.true)
+
+pub invariant_of-self : goal.invariant_of-self
+invariant_of-self c = subst (λ es. Rises es × AreApart es) (sym c.in_err-place.ensures.err) c.self.invariant
+
+pub invariant_of-self-2 : goal.invariant_of-self-2
+invariant_of-self-2 c =
+    inserted-antichain (price_of c.args.e.parts) c.args.self.now (prices_held c.place.new.self) (listed c)
+    (subst (λ es. Rises es × AreApart es) c.self.view_is c.self.invariant)
+
+pub returns-clause-list : goal.returns-clause-list
+returns-clause-list c = listed c
