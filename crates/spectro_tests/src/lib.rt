@@ -18,6 +18,8 @@ mod escapes;
 #[cfg(test)]
 mod formula_texts;
 #[cfg(test)]
+mod lanes;
+#[cfg(test)]
 mod line_readers;
 #[cfg(test)]
 mod node_lines;
