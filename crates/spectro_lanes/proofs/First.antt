@@ -1,5 +1,5 @@
 -- The first place at which something holds, found in blocks.
-use Rattle.std.proofs.Common.{ℕ, ◌≡◌, ◌+◌, ◌-◌, ◌<◌, ◌≤◌, ◌⊎◌, inl, inr, sym, subst, arith}
+use Rattle.std.proofs.Common.{ℕ, ◌≡◌, ◌+◌, ◌-◌, ◌<◌, ◌≤◌, inl, inr, sym, subst, arith}
 use Rattle.std.proofs.lemmas.Bool.{cases_lt}
 use Rattle.spectro_lanes.specs.Columns.{IsFirst}
 
@@ -17,4 +17,3 @@ first_more P k n all r room was first found = record {
   before = none_more P k r was first.before;
   at = λ _. first.at found;
 }
-

@@ -1,5 +1,5 @@
 -- Lists of prices by place.
-use Rattle.std.proofs.Common.{ℕ, ◌≡◌, ◌+◌, ◌-◌, ◌<◌, ◌≤◌, List, [], ◌∷◌, ◌++◌, length, length-append, map, take, drop, refl, sym, ap, ◌∙◌, subst, inl, inr, suc, zero, arith, Bool, true, false, cond, get_or, not, ltb, max, Some, None, IsTrue}
+use Rattle.std.proofs.Common.{ℕ, ◌≡◌, ◌+◌, ◌-◌, ◌<◌, ◌≤◌, List, [], ◌∷◌, ◌++◌, length, length-append, map, refl, sym, ap, ◌∙◌, subst, inl, inr, suc, zero, arith, Bool, true, false, cond, get_or, not, ltb, max, Some, None, IsTrue}
 use Rattle.std.specs.Bool.{Decides}
 use Rattle.std.specs.Prelude.{◌↔◌}
 use Rattle.std.specs.List.{insert, range_with_len, position, prefix_len}
@@ -7,9 +7,9 @@ use Rattle.std.proofs.lemmas.Bool.{cases_lt}
 use Rattle.std.proofs.lemmas.Bool.Decides.{Decides-ltb, same_from_decides}
 use Rattle.std.proofs.lemmas.Simd.{map-map}
 use Rattle.std.proofs.lemmas.List.Sums.{prefix_len_is}
-use Rattle.std.proofs.lemmas.List.{get_or_append_left, get_or-append_right, length-map}
+use Rattle.std.proofs.lemmas.List.{get_or_append_left, get_or-append_right}
 use Rattle.std.proofs.lemmas.List.Edits.{get_or-insert_at, get_or-insert_below, get_or-insert_above, length-insert}
-use Rattle.std.proofs.lemmas.List.FromFn.{fill_by_all, length-map-range_with_len, get_or-map-range_with_len, take-map-range_with_len, map-range_with_len_more}
+use Rattle.std.proofs.lemmas.List.FromFn.{fill_by_all, length-map-range_with_len, get_or-map-range_with_len, map-range_with_len_more}
 use Rattle.spectro_spec.specs.Price.{Price, IsAtMost, ComesBefore, parts}
 use Rattle.spectro_game.specs.MinimalElements.{is_at_most, precedes, not_above, placed_price}
 use Rattle.spectro_game.specs.Sup.{sup, zero_price}
@@ -154,10 +154,10 @@ position_first : (e : Price) (f : ℕ → Price) (n k : ℕ) → IsFirst (λ i. 
 position_first e f n k first =
     let p = λ (x : Price). not (is_at_most x e) in
     let found : prefix_len p (firsts f n) ≡ k = prefix_len_is p (firsts f n) k zero_price (omega (arith, first.bound, length-firsts f n))
-        (λ i low. ap (λ x. not (is_at_most x e)) (get_or-firsts f n i zero_price (omega (arith, first.bound)))
-        ∙ ap not (false_from_not (is_at_most (f i) e) (is_at_most-Decides (f i) e) (first.before i low)))
-        (λ short. let low : k < n = omega (arith, length-firsts f n) in ap (λ x. not (is_at_most x e)) (get_or-firsts f n k zero_price low)
-        ∙ ap not ((is_at_most-Decides (f k) e).1 (first.at low))) in
+    (λ i low. ap (λ x. not (is_at_most x e)) (get_or-firsts f n i zero_price (omega (arith, first.bound)))
+    ∙ ap not (false_from_not (is_at_most (f i) e) (is_at_most-Decides (f i) e) (first.before i low)))
+    (λ short. let low : k < n = omega (arith, length-firsts f n) in ap (λ x. not (is_at_most x e)) (get_or-firsts f n k zero_price low)
+    ∙ ap not ((is_at_most-Decides (f k) e).1 (first.at low))) in
     ap (λ m. cond (ltb m (length (firsts f n))) (Some m) None) found ∙ ap (λ m. cond (ltb k m) (Some k) None) (length-firsts f n)
   where
     false_from_not : {P : Type 0} (b : Bool) → Decides b P → ¬ P → b ≡ false

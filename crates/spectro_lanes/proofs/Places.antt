@@ -1,5 +1,5 @@
 -- Numbers in columns: where a column or a row is written, the others stay.
-use Rattle.std.proofs.Common.{ℕ, ◌≡◌, ◌≢◌, ◌+◌, ◌-◌, ◌*◌, ◌<◌, ◌≤◌, ◌⊎◌, List, length, inl, inr, sym, ap, ◌∙◌, subst, arith, max, set, get_or, get_or-set_same, get_or-set_other, below_more, mul_comm, add_assoc}
+use Rattle.std.proofs.Common.{ℕ, ◌≡◌, ◌≢◌, ◌+◌, ◌-◌, ◌*◌, ◌<◌, ◌≤◌, ◌⊎◌, List, length, inl, inr, sym, ap, ◌∙◌, arith, max, set, get_or, get_or-set_same, get_or-set_other, below_more, mul_comm, add_assoc}
 use Rattle.std.proofs.lemmas.Bool.{cases_lt, cases_order}
 use Rattle.std.proofs.lemmas.Nat.{mul-add-lt}
 
@@ -62,7 +62,7 @@ pub row_more : (old : List ℕ) (parts : List ℕ) (stride k p : ℕ) → length
 row_more old parts stride k p whole room low was =
     below_more (λ j. get_or (set old (p * stride + k) (get_or parts p 0)) (j * stride + k) 0 ≡ get_or parts j 0) p
     (λ j before. let other : j ≢ p = omega arith in
-        get_or-set_other old (p * stride + k) (j * stride + k) (get_or parts p 0) 0 (rows_apart j p stride k k room room (inl other)) ∙ was j before)
+    get_or-set_other old (p * stride + k) (j * stride + k) (get_or parts p 0) 0 (rows_apart j p stride k k room room (inl other)) ∙ was j before)
     (get_or-set_same old (p * stride + k) (get_or parts p 0) 0 (omega (arith, row_below p 7 stride k low room)))
 
 pub rows_stay : (old was : List ℕ) (stride k p value : ℕ) → k < stride

@@ -107,4 +107,3 @@ first_of_no_mask kept eight none = subst (λ b. IsFirst (λ i. get_or kept i 0 �
 pub first_of_some_mask : (kept : List ℕ) → length kept ≡ 8 → ones_mask kept ≢ 0 → IsFirst (λ i. get_or kept i 0 ≡ 1) 8 (count_trailing_zeros 64 (ones_mask kept))
 first_of_some_mask kept eight some = subst (λ b. IsFirst (λ i. get_or kept i 0 ≡ 1) 8 (cond b 8 (count_trailing_zeros 64 (ones_mask kept))))
     (not-true _ ((Decides-not (eqb (ones_mask kept) 0) (Decides-eqb (ones_mask kept) 0)).1 some)) (first_of_mask kept eight)
-

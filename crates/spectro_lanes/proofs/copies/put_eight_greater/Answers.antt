@@ -1,4 +1,4 @@
-use Rattle.std.proofs.Common.{◌≡◌, ◌+◌, ◌∙◌, arith, inl, inr, length}
+use Rattle.std.proofs.Common.{◌≡◌, ◌∙◌, arith, inl, inr, length}
 use Rattle.std.proofs.lemmas.Simd.{get_or-put_chunk_at, get_or-put_chunk_below, get_or-put_chunk_above}
 use Rattle.spectro_lanes.proofs.Vectors.{greater_lanes, length-greater_lanes, get_or-greater_lanes}
 use Rattle.spectro_lanes.proofs.copies.put_eight_greater.Goals as goal

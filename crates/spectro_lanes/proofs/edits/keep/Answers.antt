@@ -1,4 +1,4 @@
-use Rattle.std.proofs.Common.{ℕ, ◌≢◌, ◌+◌, ◌<◌, ◌∷◌, ◌++◌, [], sym, ap, ◌∙◌, subst, arith}
+use Rattle.std.proofs.Common.{◌≢◌, ◌∷◌, ◌++◌, [], sym, ap, ◌∙◌, subst, arith}
 use Rattle.std.proofs.lemmas.Bool.{true≢false}
 use Rattle.std.proofs.lemmas.List.{append-nil}
 use Rattle.spectro_spec.specs.Price.{IsAtMost}
@@ -21,7 +21,7 @@ returns-clause-list c =
     let new = price_at c.args.stride c.put_energy.new.numbers in
     let kept = prices_in c.args.stride c.args.numbers.now c.args.kept in
     let apart = λ (above : IsAtMost e (old c.args.k)).
-        true≢false (sym (c.leq.ensures.1 (subst (λ f. IsAtMost e f) (sym c.energy_at-member.ensures) above)) ∙ c.if-leq.false) in
+    true≢false (sym (c.leq.ensures.1 (subst (λ f. IsAtMost e f) (sym c.energy_at-member.ensures) above)) ∙ c.if-leq.false) in
     firsts-more new c.args.kept
     ∙ ap (λ ps. ps ++ new c.args.kept ∷ [])
     (firsts-same new old c.args.kept (λ i low. let other : i ≢ c.args.kept = omega arith in c.put_energy.ensures.others i (omega arith) other))

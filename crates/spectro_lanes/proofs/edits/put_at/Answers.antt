@@ -1,4 +1,4 @@
-use Rattle.std.proofs.Common.{ℕ, ◌≢◌, ◌+◌, ◌∙◌, arith}
+use Rattle.std.proofs.Common.{◌≢◌, ◌+◌, ◌∙◌, arith}
 use Rattle.spectro_energy.specs.Energy.{price_of}
 use Rattle.spectro_lanes.specs.Columns.{price_at}
 use Rattle.spectro_lanes.proofs.Lists.{firsts-insert}

@@ -12,6 +12,8 @@ returns-then-first-lt-LANES c =
 
 pub loop-k-preserved : goal.loop-k-preserved
 loop-k-preserved c =
-    let P = λ (i : ℕ). IsAtMost (price_at c.args.stride c.args.numbers.now i) (price_of c.args.e.parts) in
-    (omega arith, none_more P c.loop-k.k 8 c.loop-k.invariant.1
-    (λ i low. c.first_below_of_eight-first.ensures.before i (omega (arith, c.first_below_of_eight-first.ensures.bound))))
+    let P = λ (i : ℕ). IsAtMost (price_at c.args.stride c.args.numbers.now i) (price_of c.args.e.parts) in (
+      omega arith,
+      none_more P c.loop-k.k 8 c.loop-k.invariant.1
+          (λ i low. c.first_below_of_eight-first.ensures.before i (omega (arith, c.first_below_of_eight-first.ensures.bound))),
+    )

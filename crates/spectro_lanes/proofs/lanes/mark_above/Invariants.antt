@@ -1,4 +1,4 @@
-use Rattle.std.proofs.Common.{ℕ, ◌≡◌, ◌-◌, ◌<◌, ◌≤◌, IsTrue, false, length, slice_index_or}
+use Rattle.std.proofs.Common.{ℕ, ◌-◌, ◌<◌, ◌≤◌, IsTrue, false, slice_index_or}
 use Rattle.std.specs.Prelude.{◌↔◌}
 use Rattle.spectro_spec.specs.Price.{IsAtMost}
 use Rattle.spectro_energy.specs.Energy.{price_of}

@@ -1,4 +1,4 @@
-use Rattle.std.proofs.Common.{ℕ, ◌≡◌, length, ◌+◌, ◌++◌, ◌∙◌, ap, sym, map, arith, inl}
+use Rattle.std.proofs.Common.{◌≡◌, length, ◌+◌, ◌++◌, ◌∙◌, ap, sym, arith, inl}
 use Rattle.std.specs.List.{range_with_len}
 use Rattle.std.proofs.lemmas.Simd.{map-map}
 use Rattle.std.proofs.lemmas.List.{with_items_is}

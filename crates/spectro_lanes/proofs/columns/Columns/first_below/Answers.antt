@@ -1,6 +1,6 @@
-use Rattle.std.proofs.Common.{ℕ, ◌≡◌, ◌∙◌, ap, subst, arith, Some, None}
+use Rattle.std.proofs.Common.{◌∙◌, ap, subst, arith}
 use Rattle.std.specs.List.{position}
-use Rattle.spectro_spec.specs.Price.{Price, IsAtMost}
+use Rattle.spectro_spec.specs.Price.{IsAtMost}
 use Rattle.spectro_game.specs.MinimalElements.{is_at_most}
 use Rattle.spectro_energy.specs.Energy.{price_of}
 use Rattle.spectro_lanes.specs.Columns.{price_at, IsFirst}
@@ -12,7 +12,7 @@ returns-then-first-buffer c =
     let buffer = c.self.inside.buffer in
     let e = price_of c.args.e.parts in
     let first = subst (λ xs. IsFirst (λ i. IsAtMost (price_at buffer.stride xs i) e) buffer.len c.first_below-first.result) c.as_slice.ensures.value
-        c.first_below-first.ensures in
+    c.first_below-first.ensures in
     position_none e (price_at buffer.stride buffer.numbers.items) buffer.len c.first_below-first.result first (λ low. omega (arith, c.if-first-buffer.true))
     ∙ ap (position (λ f. is_at_most f e)) c.self.view_is
 
@@ -21,6 +21,6 @@ returns c =
     let buffer = c.self.inside.buffer in
     let e = price_of c.args.e.parts in
     let first = subst (λ xs. IsFirst (λ i. IsAtMost (price_at buffer.stride xs i) e) buffer.len c.first_below-first.result) c.as_slice.ensures.value
-        c.first_below-first.ensures in
+    c.first_below-first.ensures in
     position_some e (price_at buffer.stride buffer.numbers.items) buffer.len c.first_below-first.result first
     (omega (arith, c.if-first-buffer.false, first.bound)) ∙ ap (position (λ f. is_at_most f e)) c.self.view_is

@@ -1,4 +1,4 @@
-use Rattle.std.proofs.Common.{◌≡◌, ◌<◌, ◌∙◌, ap, subst, arith, length, map, false, get_or, IsTrue}
+use Rattle.std.proofs.Common.{◌≡◌, ◌∙◌, ap, subst, arith, length, map, false, get_or, IsTrue}
 use Rattle.std.specs.Prelude.{◌↔◌}
 use Rattle.spectro_spec.specs.Price.{IsAtMost}
 use Rattle.spectro_game.specs.MinimalElements.{is_at_most}
@@ -18,7 +18,7 @@ returns c =
     let e = price_of c.args.e.parts in
     let marks = c.mark_above.new.marks in
     let long : length marks ≡ buffer.len =
-        omega (arith, c.requires, ap length c.self.view_is, length-firsts (price_at buffer.stride buffer.numbers.items) buffer.len) in
+    omega (arith, c.requires, ap length c.self.view_is, length-firsts (price_at buffer.stride buffer.numbers.items) buffer.len) in
     marks_are e (price_at buffer.stride buffer.numbers.items) buffer.len marks long
     (λ i low. subst (λ xs. IsTrue (get_or marks i false) ↔ IsAtMost e (price_at buffer.stride xs i)) c.as_slice.ensures.value (c.mark_above.ensures i low))
     ∙ ap (map (is_at_most e)) c.self.view_is

@@ -1,4 +1,4 @@
-use Rattle.std.proofs.Common.{◌≡◌, ◌∙◌, ap}
+use Rattle.std.proofs.Common.{◌∙◌, ap}
 use Rattle.spectro_game.specs.MinimalElements.{not_above, placed_price}
 use Rattle.spectro_energy.specs.Energy.{price_of}
 use Rattle.spectro_lanes.proofs.columns.Columns.place.Goals as goal
