@@ -1,5 +1,6 @@
 -- What calls on energies leave of their prices.
-use Rattle.std.proofs.Common.{ℕ, ◌≡◌, List, [], ◌∷◌, length, refl, sym, ap, subst, ◌∙◌, Bool, true, false, cond, not, ◌||◌, ◌+◌, ◌<◌, ◌≤◌, ◌≢◌, suc, arith, ltb, Some, None, take, get_or}
+use Rattle.std.proofs.Common.{ℕ, ◌≡◌, List, [], ◌∷◌, length, refl, sym, ap, subst, ◌∙◌, Bool, true, false}
+use Rattle.std.proofs.Common.{cond, not, ◌||◌, ◌+◌, ◌<◌, ◌≤◌, ◌≢◌, suc, arith, ltb, Some, None, take, get_or}
 use Rattle.std.specs.Bool.{Decides, ◌==◌}
 use Rattle.std.specs.Option.{unwrap_or}
 use Rattle.std.specs.Prelude.{◌↔◌, IsTrue}
@@ -50,7 +51,8 @@ same_more fs gs k f long below was same =
     let d = price_of f.parts in
     let left = price-prices_of fs k f d below in
     let right = price-prices_of gs k f d (omega arith) in
-    take_more_same (prices_of fs) (prices_of gs) k d (omega (arith, length-map fs (λ g. price_of g.parts))) (omega (arith, length-map gs (λ g. price_of g.parts)))
+    take_more_same (prices_of fs) (prices_of gs) k d (omega (arith, length-map fs (λ g. price_of g.parts)))
+    (omega (arith, length-map gs (λ g. price_of g.parts)))
     was (left ∙ same ∙ sym right)
 
 -- lists of energies with the same prices have the same price at each place

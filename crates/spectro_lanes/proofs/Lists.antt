@@ -1,5 +1,6 @@
 -- Lists of prices by place.
-use Rattle.std.proofs.Common.{ℕ, ◌≡◌, ◌+◌, ◌-◌, ◌<◌, ◌≤◌, List, [], ◌∷◌, ◌++◌, length, length-append, map, refl, sym, ap, ◌∙◌, subst, inl, inr, suc, zero, arith, Bool, true, false, cond, get_or, not, ltb, max, Some, None, IsTrue}
+use Rattle.std.proofs.Common.{ℕ, ◌≡◌, ◌+◌, ◌-◌, ◌<◌, ◌≤◌, List, [], ◌∷◌, ◌++◌, length, length-append, map, refl, sym, ap, ◌∙◌}
+use Rattle.std.proofs.Common.{subst, inl, inr, suc, zero, arith, Bool, true, false, cond, get_or, not, ltb, max, Some, None, IsTrue}
 use Rattle.std.specs.Bool.{Decides}
 use Rattle.std.specs.Prelude.{◌↔◌}
 use Rattle.std.specs.List.{insert, range_with_len, position, prefix_len}
@@ -165,10 +166,14 @@ position_first e f n k first =
     false_from_not false told none = refl
 
 pub position_some : (e : Price) (f : ℕ → Price) (n k : ℕ) → IsFirst (λ i. IsAtMost (f i) e) n k → k < n → Some k ≡ position (λ p. is_at_most p e) (firsts f n)
-position_some e f n k first low = sym (position_first e f n k first ∙ by_test (λ b. cond b (Some k) None ≡ Some k) (ltb k n) (Decides-ltb k n) (λ _. refl) (λ no. absurd (no low)))
+position_some e f n k first low =
+    sym (position_first e f n k first
+    ∙ by_test (λ b. cond b (Some k) None ≡ Some k) (ltb k n) (Decides-ltb k n) (λ _. refl) (λ no. absurd (no low)))
 
 pub position_none : (e : Price) (f : ℕ → Price) (n k : ℕ) → IsFirst (λ i. IsAtMost (f i) e) n k → ¬ (k < n) → None ≡ position (λ p. is_at_most p e) (firsts f n)
-position_none e f n k first all = sym (position_first e f n k first ∙ by_test (λ b. cond b (Some k) None ≡ None) (ltb k n) (Decides-ltb k n) (λ low. absurd (all low)) (λ _. refl))
+position_none e f n k first all =
+    sym (position_first e f n k first
+    ∙ by_test (λ b. cond b (Some k) None ≡ None) (ltb k n) (Decides-ltb k n) (λ low. absurd (all low)) (λ _. refl))
 
 -- marks of each of the first n
 pub marks_are : (e : Price) (f : ℕ → Price) (n : ℕ) (marks : List Bool) → length marks ≡ n

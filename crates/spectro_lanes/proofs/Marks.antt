@@ -1,5 +1,6 @@
 -- Marks of the first places, where more are marked.
-use Rattle.std.proofs.Common.{ℕ, ◌≡◌, ◌≢◌, ◌+◌, ◌-◌, ◌<◌, List, length, inl, inr, sym, subst, arith, Bool, false, set, get_or, get_or-set_same, get_or-set_other, below_more, IsTrue}
+use Rattle.std.proofs.Common.{ℕ, ◌≡◌, ◌≢◌, ◌+◌, ◌-◌, ◌<◌, List, length, inl, inr, sym}
+use Rattle.std.proofs.Common.{subst, arith, Bool, false, set, get_or, get_or-set_same, get_or-set_other, below_more, IsTrue}
 use Rattle.std.specs.Prelude.{◌↔◌}
 use Rattle.std.proofs.lemmas.Bool.{cases_lt}
 

@@ -1,5 +1,6 @@
 -- Numbers in columns: where a column or a row is written, the others stay.
-use Rattle.std.proofs.Common.{ℕ, ◌≡◌, ◌≢◌, ◌+◌, ◌-◌, ◌*◌, ◌<◌, ◌≤◌, ◌⊎◌, List, length, inl, inr, sym, ap, ◌∙◌, arith, max, set, get_or, get_or-set_same, get_or-set_other, below_more, mul_comm, add_assoc}
+use Rattle.std.proofs.Common.{ℕ, ◌≡◌, ◌≢◌, ◌+◌, ◌-◌, ◌*◌, ◌<◌, ◌≤◌, ◌⊎◌, List, length, inl, inr}
+use Rattle.std.proofs.Common.{sym, ap, ◌∙◌, arith, max, set, get_or, get_or-set_same, get_or-set_other, below_more, mul_comm, add_assoc}
 use Rattle.std.proofs.lemmas.Bool.{cases_lt, cases_order}
 use Rattle.std.proofs.lemmas.Nat.{mul-add-lt}
 

@@ -1,5 +1,6 @@
 -- What a vector of eight numbers holds after a comparison with a bound.
-use Rattle.std.proofs.Common.{ℕ, ◌≡◌, ◌+◌, ◌-◌, ◌^◌, ◌<◌, ◌≤◌, List, length, refl, sym, ap, ◌∙◌, Bool, true, false, cond, get_or, replicate, arith, w32, map, below_more, ◌%◌, eqb, subst, not, lit≤, ◌≢◌, ltb, max}
+use Rattle.std.proofs.Common.{ℕ, ◌≡◌, ◌+◌, ◌-◌, ◌^◌, ◌<◌, ◌≤◌, List, length, refl, sym, ap, ◌∙◌, Bool, true, false}
+use Rattle.std.proofs.Common.{cond, get_or, replicate, arith, w32, map, below_more, ◌%◌, eqb, subst, not, lit≤, ◌≢◌, ltb, max}
 use Rattle.std.specs.Prelude.{◌↔◌}
 use Rattle.std.specs.Bool.{Decides}
 use Rattle.std.specs.Int.Count.{count_trailing_zeros}
@@ -9,7 +10,8 @@ use Rattle.std.proofs.lemmas.Bool.{true≢false, not-false, not-true}
 use Rattle.std.proofs.lemmas.Bool.Decides.{Decides-eqb, Decides-not, nat_tests}
 use Rattle.std.proofs.lemmas.List.Sums.{prefix_len-le-length, prefix_len_passes, prefix_len_stops}
 use Rattle.spectro_lanes.specs.Columns.{IsFirst}
-use Rattle.std.proofs.lemmas.Simd.{bitmask_splat, first_set_mask_l, tops_compared, get_or-sel_l, length-sel_l, get_or-zip2, get_or-chunk, length-chunk, length-zip2, get_or-replicate}
+use Rattle.std.proofs.lemmas.Simd.{bitmask_splat, first_set_mask_l, tops_compared, get_or-sel_l, length-sel_l}
+use Rattle.std.proofs.lemmas.Simd.{get_or-zip2, get_or-chunk, length-chunk, length-zip2, get_or-replicate}
 
 -- the lane of the one list where the test holds, and of the other where it does not
 selected : (t : ℕ → ℕ → Bool) (xs ys us vs : List ℕ) (i : ℕ) → length xs ≡ 8 → length ys ≡ 8 → length us ≡ 8 → length vs ≡ 8 → i < 8
@@ -87,7 +89,8 @@ abbrev is_one : ℕ → Bool
 is_one x = eqb x 1
 
 -- the lowest bit of the mask is the first of the lanes that are 1
-first_of_mask : (kept : List ℕ) → length kept ≡ 8 → IsFirst (λ i. get_or kept i 0 ≡ 1) 8 (cond (eqb (ones_mask kept) 0) 8 (count_trailing_zeros 64 (ones_mask kept)))
+first_of_mask : (kept : List ℕ) → length kept ≡ 8
+    → IsFirst (λ i. get_or kept i 0 ≡ 1) 8 (cond (eqb (ones_mask kept) 0) 8 (count_trailing_zeros 64 (ones_mask kept)))
 first_of_mask kept eight =
     let same : ones_mask kept ≡ mask_l (map is_one kept) = bitmask_splat w32 eqb kept 8 1 eight (lit≤ tt) in
     let counted = ap (λ m. cond (eqb m 0) 8 (count_trailing_zeros 64 m)) same ∙ first_set_mask_l is_one kept 8 eight (lit≤ tt) in
@@ -104,6 +107,7 @@ pub first_of_no_mask : (kept : List ℕ) → length kept ≡ 8 → ones_mask kep
 first_of_no_mask kept eight none = subst (λ b. IsFirst (λ i. get_or kept i 0 ≡ 1) 8 (cond b 8 (count_trailing_zeros 64 (ones_mask kept))))
     ((Decides-eqb (ones_mask kept) 0).1 none) (first_of_mask kept eight)
 
-pub first_of_some_mask : (kept : List ℕ) → length kept ≡ 8 → ones_mask kept ≢ 0 → IsFirst (λ i. get_or kept i 0 ≡ 1) 8 (count_trailing_zeros 64 (ones_mask kept))
+pub first_of_some_mask : (kept : List ℕ) → length kept ≡ 8 → ones_mask kept ≢ 0
+    → IsFirst (λ i. get_or kept i 0 ≡ 1) 8 (count_trailing_zeros 64 (ones_mask kept))
 first_of_some_mask kept eight some = subst (λ b. IsFirst (λ i. get_or kept i 0 ≡ 1) 8 (cond b 8 (count_trailing_zeros 64 (ones_mask kept))))
     (not-true _ ((Decides-not (eqb (ones_mask kept) 0) (Decides-eqb (ones_mask kept) 0)).1 some)) (first_of_mask kept eight)

@@ -17,7 +17,8 @@ fn keep(numbers: &mut [u32], stride: usize, kept: usize, k: usize, e: Energy) ->
     requires order { kept ≤ k }
     requires room { k < stride }
     ensures bound { result ≤ kept + 1 }
-    ensures list { prices_in stride numbers.new result ≡ prices_in stride numbers.old kept ++ not_above (price_of e.parts) (price_at stride numbers.old k ∷ []) }
+    ensures list { prices_in stride numbers.new result
+        ≡ prices_in stride numbers.old kept ++ not_above (price_of e.parts) (price_at stride numbers.old k ∷ []) }
     ensures later { (i : ℕ) → k < i → i < stride → price_at stride numbers.new i ≡ price_at stride numbers.old i }
 {
     let member = energy_at(numbers, stride, k);
