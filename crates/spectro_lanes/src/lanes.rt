@@ -30,6 +30,68 @@ pub(crate) fn energy_at(numbers: &[u32], stride: usize, k: usize) -> Energy
     }
 }
 
+// Whether member `k` is at most `e`.
+#[inline(always)]
+fn is_below(numbers: &[u32], stride: usize, k: usize, e: Energy) -> bool
+    requires whole { length numbers.now ≡ 7 * stride }
+    requires room { k < stride }
+    ensures { IsTrue result ↔ IsAtMost (price_at stride numbers.now k) (price_of e.parts) }
+{
+    let [
+        observations,
+        conjunctions,
+        deepest_positive,
+        other_positive,
+        deepest_negative,
+        negations,
+        weighted_depth,
+    ] = e.parts;
+    numbers[k] <= observations
+        && numbers[stride + k] <= conjunctions
+        && numbers[2 * stride + k] <= deepest_positive
+        && numbers[3 * stride + k] <= other_positive
+        && numbers[4 * stride + k] <= deepest_negative
+        && numbers[5 * stride + k] <= negations
+        && numbers[6 * stride + k] <= weighted_depth
+}
+
+// Whether `e` is at most member `k`.
+#[inline(always)]
+fn is_above(numbers: &[u32], stride: usize, k: usize, e: Energy) -> bool
+    requires whole { length numbers.now ≡ 7 * stride }
+    requires room { k < stride }
+    ensures { IsTrue result ↔ IsAtMost (price_of e.parts) (price_at stride numbers.now k) }
+{
+    let [
+        observations,
+        conjunctions,
+        deepest_positive,
+        other_positive,
+        deepest_negative,
+        negations,
+        weighted_depth,
+    ] = e.parts;
+    observations <= numbers[k]
+        && conjunctions <= numbers[stride + k]
+        && deepest_positive <= numbers[2 * stride + k]
+        && other_positive <= numbers[3 * stride + k]
+        && deepest_negative <= numbers[4 * stride + k]
+        && negations <= numbers[5 * stride + k]
+        && weighted_depth <= numbers[6 * stride + k]
+}
+
+// The first lane that is 1, or 8 where there is none.
+#[inline(always)]
+fn first_one(kept: u32x8) -> usize
+    ensures { IsFirst (λ i. slice_index kept i ≡ 1) 8 result }
+{
+    let ones = kept.simd_eq(u32x8::splat(1)).to_bitmask();
+    if ones == 0 {
+        return LANES;
+    }
+    ones.trailing_zeros() as usize
+}
+
 // A lane of the result is 1 exactly where it was and its number is at most the bound.
 #[inline(always)]
 fn kept_below(kept: u32x8, numbers: &[u32], at: usize, bound: u32) -> u32x8
@@ -48,8 +110,13 @@ fn lanes_below(numbers: &[u32], stride: usize, k: usize, e: Energy) -> u32x8
     requires room { k + 8 ≤ stride }
     ensures { (i : ℕ) → i < 8 → slice_index result i ≡ 1 ↔ IsAtMost (price_at stride numbers.now (k + i)) (price_of e.parts) }
 {
-    let mut kept = u32x8::splat(1);
-    for part in 0..7 {
+    let first = kept_below(u32x8::splat(1), numbers, k, e.parts[0]);
+    // in a list in order the first part settles most
+    if first_one(first) == LANES {
+        return first;
+    }
+    let mut kept = first;
+    for part in 1..7 {
         kept = kept_below(kept, numbers, part * stride + k, e.parts[part]);
     }
     kept
@@ -73,23 +140,16 @@ fn lanes_above(numbers: &[u32], stride: usize, k: usize, e: Energy) -> u32x8
     requires room { k + 8 ≤ stride }
     ensures { (i : ℕ) → i < 8 → slice_index result i ≡ 1 ↔ IsAtMost (price_of e.parts) (price_at stride numbers.now (k + i)) }
 {
-    let mut kept = u32x8::splat(1);
-    for part in 0..7 {
+    let first = kept_above(u32x8::splat(1), numbers, k, e.parts[0]);
+    // in a list in order the first part settles most
+    if first_one(first) == LANES {
+        return first;
+    }
+    let mut kept = first;
+    for part in 1..7 {
         kept = kept_above(kept, numbers, part * stride + k, e.parts[part]);
     }
     kept
-}
-
-// The first lane that is 1, or 8 where there is none.
-#[inline(always)]
-fn first_one(kept: u32x8) -> usize
-    ensures { IsFirst (λ i. slice_index kept i ≡ 1) 8 result }
-{
-    let ones = kept.simd_eq(u32x8::splat(1)).to_bitmask();
-    if ones == 0 {
-        return LANES;
-    }
-    ones.trailing_zeros() as usize
 }
 
 // The first of the members from `k` on that is at most `e`, or 8 where none of the eight is.
@@ -127,7 +187,7 @@ pub(crate) fn first_below(numbers: &[u32], stride: usize, n: usize, e: Energy) -
         k += LANES;
     }
     while k < n {
-        if energy_at(numbers, stride, k).leq(e) {
+        if is_below(numbers, stride, k, e) {
             return k;
         }
         k += 1;
@@ -150,7 +210,7 @@ pub(crate) fn first_above(numbers: &[u32], stride: usize, n: usize, e: Energy) -
         k += LANES;
     }
     while k < n {
-        if e.leq(energy_at(numbers, stride, k)) {
+        if is_above(numbers, stride, k, e) {
             return k;
         }
         k += 1;
@@ -184,7 +244,7 @@ pub(crate) fn mark_above(numbers: &[u32], stride: usize, e: Energy, marks: &mut 
         k += LANES;
     }
     while k < n {
-        marks[k] = e.leq(energy_at(numbers, stride, k));
+        marks[k] = is_above(numbers, stride, k, e);
         k += 1;
     }
 }

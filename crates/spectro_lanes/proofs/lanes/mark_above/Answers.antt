@@ -1,5 +1,4 @@
-use Rattle.std.proofs.Common.{subst, arith, IsTrue}
-use Rattle.std.specs.Prelude.{◌↔◌}
+use Rattle.std.proofs.Common.{arith}
 use Rattle.spectro_spec.specs.Price.{IsAtMost}
 use Rattle.spectro_energy.specs.Energy.{price_of}
 use Rattle.spectro_lanes.specs.Columns.{price_at}
@@ -16,6 +15,6 @@ loop-k-preserved c = (
 pub loop-k-2-preserved : goal.loop-k-2-preserved
 loop-k-2-preserved c = (
   omega arith,
-  marks_more (λ i. IsAtMost (price_of c.args.e.parts) (price_at c.args.stride c.args.numbers.now i)) c.loop-k-2.k c.loop-k-2.marks c.leq.result (omega arith)
-      (subst (λ f. IsTrue c.leq.result ↔ IsAtMost (price_of c.args.e.parts) f) c.energy_at.ensures c.leq.ensures) c.loop-k-2.invariant.1,
+  marks_more (λ i. IsAtMost (price_of c.args.e.parts) (price_at c.args.stride c.args.numbers.now i)) c.loop-k-2.k c.loop-k-2.marks c.is_above.result
+      (omega arith) c.is_above.ensures c.loop-k-2.invariant.1,
 )
