@@ -71,6 +71,7 @@ impl Antichain {
     }
 
     /// Whether some member is at most `e`.
+    #[inline]
     pub fn covers(&self, e: Energy) -> bool
         ensures { IsTrue result ↔ Covers self.now (price_of e.parts) }
     {

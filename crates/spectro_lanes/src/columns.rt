@@ -100,6 +100,7 @@ impl Columns {
     }
 
     /// Whether some member is at most `e`.
+    #[inline(always)]
     pub(crate) fn covers(&self, e: Energy) -> bool
         ensures { IsTrue result ↔ Covers self.now (price_of e.parts) }
     {

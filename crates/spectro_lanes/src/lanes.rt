@@ -32,7 +32,7 @@ pub(crate) fn energy_at(numbers: &[u32], stride: usize, k: usize) -> Energy
 
 // Whether member `k` is at most `e`.
 #[inline(always)]
-fn is_below(numbers: &[u32], stride: usize, k: usize, e: Energy) -> bool
+pub(crate) fn is_below(numbers: &[u32], stride: usize, k: usize, e: Energy) -> bool
     requires whole { length numbers.now ≡ 7 * stride }
     requires room { k < stride }
     ensures { IsTrue result ↔ IsAtMost (price_at stride numbers.now k) (price_of e.parts) }
@@ -172,8 +172,28 @@ fn first_above_of_eight(numbers: &[u32], stride: usize, k: usize, e: Energy) -> 
     first_one(lanes_above(numbers, stride, k, e))
 }
 
-// The first of the `n` members that is at most `e`, or `n` where there is none.
-pub(crate) fn first_below(numbers: &[u32], stride: usize, n: usize, e: Energy) -> usize
+// The first of the `n` members that is at most `e`, or `n` where there is none. None of the first `k` is one.
+#[inline(always)]
+fn rest_below(numbers: &[u32], stride: usize, k: usize, n: usize, e: Energy) -> usize
+    requires whole { length numbers.now ≡ 7 * stride }
+    requires room { n ≤ stride }
+    requires start { k ≤ n }
+    requires passed { (i : ℕ) → i < k → ¬ IsAtMost (price_at stride numbers.now i) (price_of e.parts) }
+    ensures { IsFirst (λ i. IsAtMost (price_at stride numbers.now i) (price_of e.parts)) n result }
+{
+    let mut at = k;
+    while at < n {
+        if is_below(numbers, stride, at, e) {
+            return at;
+        }
+        at += 1;
+    }
+    n
+}
+
+// The same of a list of any length, in blocks of eight.
+#[inline(never)]
+fn blocks_below(numbers: &[u32], stride: usize, n: usize, e: Energy) -> usize
     requires whole { length numbers.now ≡ 7 * stride }
     requires room { n ≤ stride }
     ensures { IsFirst (λ i. IsAtMost (price_at stride numbers.now i) (price_of e.parts)) n result }
@@ -186,17 +206,44 @@ pub(crate) fn first_below(numbers: &[u32], stride: usize, n: usize, e: Energy) -
         }
         k += LANES;
     }
-    while k < n {
-        if is_below(numbers, stride, k, e) {
-            return k;
+    rest_below(numbers, stride, k, n, e)
+}
+
+// The first of the `n` members that is at most `e`, or `n` where there is none.
+#[inline(always)]
+pub(crate) fn first_below(numbers: &[u32], stride: usize, n: usize, e: Energy) -> usize
+    requires whole { length numbers.now ≡ 7 * stride }
+    requires room { n ≤ stride }
+    ensures { IsFirst (λ i. IsAtMost (price_at stride numbers.now i) (price_of e.parts)) n result }
+{
+    if n < LANES {
+        return rest_below(numbers, stride, 0, n, e);
+    }
+    blocks_below(numbers, stride, n, e)
+}
+
+// The first of the `n` members that `e` is at most, or `n` where there is none. None of the first `k` is one.
+#[inline(always)]
+fn rest_above(numbers: &[u32], stride: usize, k: usize, n: usize, e: Energy) -> usize
+    requires whole { length numbers.now ≡ 7 * stride }
+    requires room { n ≤ stride }
+    requires start { k ≤ n }
+    requires passed { (i : ℕ) → i < k → ¬ IsAtMost (price_of e.parts) (price_at stride numbers.now i) }
+    ensures { IsFirst (λ i. IsAtMost (price_of e.parts) (price_at stride numbers.now i)) n result }
+{
+    let mut at = k;
+    while at < n {
+        if is_above(numbers, stride, at, e) {
+            return at;
         }
-        k += 1;
+        at += 1;
     }
     n
 }
 
-// The first of the `n` members that `e` is at most, or `n` where there is none.
-pub(crate) fn first_above(numbers: &[u32], stride: usize, n: usize, e: Energy) -> usize
+// The same of a list of any length, in blocks of eight.
+#[inline(never)]
+fn blocks_above(numbers: &[u32], stride: usize, n: usize, e: Energy) -> usize
     requires whole { length numbers.now ≡ 7 * stride }
     requires room { n ≤ stride }
     ensures { IsFirst (λ i. IsAtMost (price_of e.parts) (price_at stride numbers.now i)) n result }
@@ -209,13 +256,20 @@ pub(crate) fn first_above(numbers: &[u32], stride: usize, n: usize, e: Energy) -
         }
         k += LANES;
     }
-    while k < n {
-        if is_above(numbers, stride, k, e) {
-            return k;
-        }
-        k += 1;
+    rest_above(numbers, stride, k, n, e)
+}
+
+// The first of the `n` members that `e` is at most, or `n` where there is none.
+#[inline(always)]
+pub(crate) fn first_above(numbers: &[u32], stride: usize, n: usize, e: Energy) -> usize
+    requires whole { length numbers.now ≡ 7 * stride }
+    requires room { n ≤ stride }
+    ensures { IsFirst (λ i. IsAtMost (price_of e.parts) (price_at stride numbers.now i)) n result }
+{
+    if n < LANES {
+        return rest_above(numbers, stride, 0, n, e);
     }
-    n
+    blocks_above(numbers, stride, n, e)
 }
 
 // Marks the eight places from `k` on at which the lane is 1.

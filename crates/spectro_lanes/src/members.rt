@@ -1,10 +1,12 @@
 ghost use Rattle.std.specs.Prelude.{◌≡◌, ◌↔◌, ◌<◌, [], ◌∷◌, length, slice_index_or, IsTrue, IfOk, OnOk, OnErr};
+ghost use Rattle.spectro_spec.specs.Price.{IsAtMost};
 ghost use Rattle.spectro_spec.specs.LeastPrices.{Covers};
 ghost use Rattle.spectro_game.specs.MinimalElements.{not_above, placed_price};
 ghost use Rattle.spectro_energy.specs.Energy.{price_of};
 ghost use Rattle.spectro_lanes.specs.Members.{prices_held};
 
 use crate::columns::Columns;
+use crate::lanes::is_below;
 use spectro_energy::Energy;
 use std::alloc::{AllocError, Global};
 
@@ -38,12 +40,13 @@ impl Members {
         }
     }
 
+    #[inline(always)]
     pub(crate) fn covers(&self, e: Energy) -> bool
         ensures { IsTrue result ↔ Covers (prices_held self.now) (price_of e.parts) }
     {
         match self {
             Members::Empty => false,
-            Members::One(f) => f.leq(e),
+            Members::One(f) => is_at_most(*f, e),
             Members::Many(columns) => columns.covers(e),
         }
     }
@@ -86,11 +89,19 @@ impl Members {
     }
 }
 
+// Whether each part of `f` is at most that of `e`: one energy is a row in columns of one.
+#[inline(always)]
+fn is_at_most(f: Energy, e: Energy) -> bool
+    ensures { IsTrue result ↔ IsAtMost (price_of f.parts) (price_of e.parts) }
+{
+    is_below(f.parts.as_slice(), 1, 0, e)
+}
+
 // The members where `e` comes to `f`, which may go.
 fn beside(alloc: Global, f: Energy, e: Energy) -> Result<Members, AllocError>
     ensures { IfOk result (λ made. prices_held made ≡ placed_price (price_of e.parts) (not_above (price_of e.parts) (price_of f.parts ∷ []))) }
 {
-    if e.leq(f) {
+    if is_at_most(e, f) {
         return Ok(Members::One(e));
     }
     let mut both = Columns::new(alloc);

@@ -3,7 +3,7 @@ use Rattle.spectro_spec.specs.Price.{IsAtMost}
 use Rattle.spectro_energy.specs.Energy.{price_of}
 use Rattle.spectro_lanes.specs.Columns.{price_at}
 use Rattle.spectro_lanes.proofs.First.{none_more, first_more}
-use Rattle.spectro_lanes.proofs.lanes.first_below.Goals as goal
+use Rattle.spectro_lanes.proofs.lanes.blocks_below.Goals as goal
 
 pub returns-then-first-lt-LANES : goal.returns-then-first-lt-LANES
 returns-then-first-lt-LANES c =
