@@ -75,7 +75,7 @@ impl Antichain {
     pub fn covers(&self, e: Energy) -> bool
         ensures { IsTrue result ↔ Covers self.now (price_of e.parts) }
     {
-        self.members.covers(e)
+        self.members.covers(&e)
     }
 
     /// Adds `e` unless a member is at most it, and drops the members that `e` is at most.
@@ -87,10 +87,10 @@ impl Antichain {
         ensures err { OnErr result (self.new ≡ self.old) }
         ensures cause { OnErr result (¬ Covers self.old (price_of e.parts)) }
     {
-        if self.covers(e) {
+        if self.members.covers(&e) {
             return Ok(false);
         }
-        self.members.place(self.alloc, e)?;
+        self.members.place(self.alloc, &e)?;
         Ok(true)
     }
 

@@ -56,7 +56,7 @@ impl Buffer {
             self.numbers.as_slice(),
             self.stride,
             self.len,
-            ZERO,
+            &ZERO,
             numbers.as_mut_slice(),
             stride,
             0,
@@ -83,18 +83,18 @@ impl Buffer {
         Ok(())
     }
 
-    pub(crate) fn push(&mut self, e: Energy)
+    pub(crate) fn push(&mut self, e: &Energy)
         requires { self.old.len < self.old.stride }
-        ensures { members_of self.new ≡ members_of self.old ++ price_of e.parts ∷ [] }
+        ensures { members_of self.new ≡ members_of self.old ++ price_of e.now.parts ∷ [] }
     {
         put_energy(self.numbers.as_mut_slice(), self.stride, self.len, e);
         self.len += 1;
     }
 
     // Puts the sup of each of the other members and `e` last.
-    pub(crate) fn push_sups(&mut self, from: &Buffer, e: Energy)
+    pub(crate) fn push_sups(&mut self, from: &Buffer, e: &Energy)
         requires { self.old.len + from.now.len ≤ self.old.stride }
-        ensures { members_of self.new ≡ members_of self.old ++ map (λ f. sup f (price_of e.parts)) (members_of from.now) }
+        ensures { members_of self.new ≡ members_of self.old ++ map (λ f. sup f (price_of e.now.parts)) (members_of from.now) }
     {
         put_sups(
             from.numbers.as_slice(),
@@ -109,8 +109,8 @@ impl Buffer {
     }
 
     // Drops the members that `e` is at most.
-    pub(crate) fn drop_above(&mut self, e: Energy)
-        ensures members { members_of self.new ≡ not_above (price_of e.parts) (members_of self.old) }
+    pub(crate) fn drop_above(&mut self, e: &Energy)
+        ensures members { members_of self.new ≡ not_above (price_of e.now.parts) (members_of self.old) }
         ensures len { self.new.len ≤ self.old.len }
         ensures room { self.new.stride ≡ self.old.stride }
     {
@@ -118,9 +118,9 @@ impl Buffer {
     }
 
     // Puts `e` before the first member that it comes before.
-    pub(crate) fn put_in_place(&mut self, e: Energy)
+    pub(crate) fn put_in_place(&mut self, e: &Energy)
         requires { self.old.len < self.old.stride }
-        ensures { members_of self.new ≡ placed_price (price_of e.parts) (members_of self.old) }
+        ensures { members_of self.new ≡ placed_price (price_of e.now.parts) (members_of self.old) }
     {
         edits::put_in_place(self.numbers.as_mut_slice(), self.stride, self.len, e);
         self.len += 1;

@@ -65,7 +65,7 @@ impl Columns {
         ensures err { OnErr result (self.new ≡ self.old) }
     {
         self.buffer.reserve(1)?;
-        self.buffer.push(e);
+        self.buffer.push(&e);
         Ok(())
     }
 
@@ -74,7 +74,7 @@ impl Columns {
         ensures { result ≡ position (λ f. is_at_most f (price_of e.parts)) self.now }
     {
         let buffer = &self.buffer;
-        let first = lanes::first_below(buffer.numbers.as_slice(), buffer.stride, buffer.len, e);
+        let first = lanes::first_below(buffer.numbers.as_slice(), buffer.stride, buffer.len, &e);
         if first == buffer.len {
             return None;
         }
@@ -86,7 +86,12 @@ impl Columns {
         requires { length marks.old ≡ length self.now }
         ensures { marks.new ≡ map (is_at_most (price_of e.parts)) self.now }
     {
-        lanes::mark_above(self.buffer.numbers.as_slice(), self.buffer.stride, e, marks);
+        lanes::mark_above(
+            self.buffer.numbers.as_slice(),
+            self.buffer.stride,
+            &e,
+            marks,
+        );
     }
 
     /// Puts the least upper bound of each member and `e` last in `target`, in order.
@@ -95,14 +100,14 @@ impl Columns {
         ensures err { OnErr result (target.new ≡ target.old) }
     {
         target.buffer.reserve(self.buffer.len)?;
-        target.buffer.push_sups(&self.buffer, e);
+        target.buffer.push_sups(&self.buffer, &e);
         Ok(())
     }
 
     /// Whether some member is at most `e`.
     #[inline(always)]
-    pub(crate) fn covers(&self, e: Energy) -> bool
-        ensures { IsTrue result ↔ Covers self.now (price_of e.parts) }
+    pub(crate) fn covers(&self, e: &Energy) -> bool
+        ensures { IsTrue result ↔ Covers self.now (price_of e.now.parts) }
     {
         let buffer = &self.buffer;
         let first = lanes::first_below(buffer.numbers.as_slice(), buffer.stride, buffer.len, e);
@@ -111,8 +116,8 @@ impl Columns {
 
     /// Drops the members that `e` is at most, and puts `e` before the first that it comes before.
     /// Memory is taken before anything changes.
-    pub(crate) fn place(&mut self, e: Energy) -> Result<(), AllocError>
-        ensures list { OnOk result (self.new ≡ placed_price (price_of e.parts) (not_above (price_of e.parts) self.old)) }
+    pub(crate) fn place(&mut self, e: &Energy) -> Result<(), AllocError>
+        ensures list { OnOk result (self.new ≡ placed_price (price_of e.now.parts) (not_above (price_of e.now.parts) self.old)) }
         ensures err { OnErr result (self.new ≡ self.old) }
     {
         self.buffer.reserve(1)?;

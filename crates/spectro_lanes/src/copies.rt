@@ -44,7 +44,7 @@ pub(crate) fn put_sups(
     from: &[u32],
     from_stride: usize,
     n: usize,
-    e: Energy,
+    e: &Energy,
     to: &mut [u32],
     stride: usize,
     at: usize,
@@ -53,7 +53,7 @@ pub(crate) fn put_sups(
     requires members { n ≤ from_stride }
     requires target { length to.old ≡ 7 * stride }
     requires room { at + n ≤ stride }
-    ensures here { (i : ℕ) → i < n → price_at stride to.new (at + i) ≡ sup (price_at from_stride from.now i) (price_of e.parts) }
+    ensures here { (i : ℕ) → i < n → price_at stride to.new (at + i) ≡ sup (price_at from_stride from.now i) (price_of e.now.parts) }
     ensures others { (i : ℕ) → i < stride → (i < at) ⊎ (at + n ≤ i) → price_at stride to.new i ≡ price_at stride to.old i }
 {
     for part in 0..7 {
@@ -69,10 +69,10 @@ pub(crate) fn put_sups(
 }
 
 // Puts `e` into row `k`.
-pub(crate) fn put_energy(numbers: &mut [u32], stride: usize, k: usize, e: Energy)
+pub(crate) fn put_energy(numbers: &mut [u32], stride: usize, k: usize, e: &Energy)
     requires whole { length numbers.old ≡ 7 * stride }
     requires room { k < stride }
-    ensures here { price_at stride numbers.new k ≡ price_of e.parts }
+    ensures here { price_at stride numbers.new k ≡ price_of e.now.parts }
     ensures others { (i : ℕ) → i < stride → i ≢ k → price_at stride numbers.new i ≡ price_at stride numbers.old i }
 {
     for part in 0..7 {

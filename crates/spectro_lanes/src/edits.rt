@@ -12,29 +12,29 @@ use spectro_energy::Energy;
 use std::cmp::Ordering;
 
 // Keeps member `k` as the next one unless `e` is at most it. Answers how many are kept then.
-fn keep(numbers: &mut [u32], stride: usize, kept: usize, k: usize, e: Energy) -> usize
+fn keep(numbers: &mut [u32], stride: usize, kept: usize, k: usize, e: &Energy) -> usize
     requires whole { length numbers.old ≡ 7 * stride }
     requires order { kept ≤ k }
     requires room { k < stride }
     ensures bound { result ≤ kept + 1 }
     ensures list { prices_in stride numbers.new result
-        ≡ prices_in stride numbers.old kept ++ not_above (price_of e.parts) (price_at stride numbers.old k ∷ []) }
+        ≡ prices_in stride numbers.old kept ++ not_above (price_of e.now.parts) (price_at stride numbers.old k ∷ []) }
     ensures later { (i : ℕ) → k < i → i < stride → price_at stride numbers.new i ≡ price_at stride numbers.old i }
 {
     let member = energy_at(numbers, stride, k);
     if e.leq(member) {
         return kept;
     }
-    put_energy(numbers, stride, kept, member);
+    put_energy(numbers, stride, kept, &member);
     kept + 1
 }
 
 // Drops the members that `e` is at most. Answers how many are left.
-pub(crate) fn drop_above(numbers: &mut [u32], stride: usize, n: usize, e: Energy) -> usize
+pub(crate) fn drop_above(numbers: &mut [u32], stride: usize, n: usize, e: &Energy) -> usize
     requires whole { length numbers.old ≡ 7 * stride }
     requires room { n ≤ stride }
     ensures bound { result ≤ n }
-    ensures list { prices_in stride numbers.new result ≡ not_above (price_of e.parts) (prices_in stride numbers.old n) }
+    ensures list { prices_in stride numbers.new result ≡ not_above (price_of e.now.parts) (prices_in stride numbers.old n) }
 {
     let first = first_above(numbers, stride, n, e);
     let mut kept = first;
@@ -45,10 +45,10 @@ pub(crate) fn drop_above(numbers: &mut [u32], stride: usize, n: usize, e: Energy
 }
 
 // The first of the `n` members that `e` comes before, or `n` where there is none.
-fn first_after(numbers: &[u32], stride: usize, n: usize, e: Energy) -> usize
+fn first_after(numbers: &[u32], stride: usize, n: usize, e: &Energy) -> usize
     requires whole { length numbers.now ≡ 7 * stride }
     requires room { n ≤ stride }
-    ensures { IsFirst (λ i. ComesBefore (price_of e.parts) (price_at stride numbers.now i)) n result }
+    ensures { IsFirst (λ i. ComesBefore (price_of e.now.parts) (price_at stride numbers.now i)) n result }
 {
     for k in 0..n {
         if e.lex(energy_at(numbers, stride, k)) == Ordering::Less {
@@ -59,26 +59,26 @@ fn first_after(numbers: &[u32], stride: usize, n: usize, e: Energy) -> usize
 }
 
 // Moves the members from `place` on to the next rows, and puts `e` there.
-fn put_at(numbers: &mut [u32], stride: usize, n: usize, place: usize, e: Energy)
+fn put_at(numbers: &mut [u32], stride: usize, n: usize, place: usize, e: &Energy)
     requires whole { length numbers.old ≡ 7 * stride }
     requires room { n < stride }
     requires order { place ≤ n }
-    ensures { prices_in stride numbers.new (n + 1) ≡ insert (prices_in stride numbers.old n) place (price_of e.parts) }
+    ensures { prices_in stride numbers.new (n + 1) ≡ insert (prices_in stride numbers.old n) place (price_of e.now.parts) }
 {
     let mut k = n;
     while k > place {
         let member = energy_at(numbers, stride, k - 1);
-        put_energy(numbers, stride, k, member);
+        put_energy(numbers, stride, k, &member);
         k -= 1;
     }
     put_energy(numbers, stride, place, e);
 }
 
 // Puts `e` before the first of the `n` members that it comes before.
-pub(crate) fn put_in_place(numbers: &mut [u32], stride: usize, n: usize, e: Energy)
+pub(crate) fn put_in_place(numbers: &mut [u32], stride: usize, n: usize, e: &Energy)
     requires whole { length numbers.old ≡ 7 * stride }
     requires room { n < stride }
-    ensures { prices_in stride numbers.new (n + 1) ≡ placed_price (price_of e.parts) (prices_in stride numbers.old n) }
+    ensures { prices_in stride numbers.new (n + 1) ≡ placed_price (price_of e.now.parts) (prices_in stride numbers.old n) }
 {
     let place = first_after(numbers, stride, n, e);
     put_at(numbers, stride, n, place, e);

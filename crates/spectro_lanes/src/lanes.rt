@@ -32,10 +32,10 @@ pub(crate) fn energy_at(numbers: &[u32], stride: usize, k: usize) -> Energy
 
 // Whether member `k` is at most `e`.
 #[inline(always)]
-pub(crate) fn is_below(numbers: &[u32], stride: usize, k: usize, e: Energy) -> bool
+pub(crate) fn is_below(numbers: &[u32], stride: usize, k: usize, e: &Energy) -> bool
     requires whole { length numbers.now ≡ 7 * stride }
     requires room { k < stride }
-    ensures { IsTrue result ↔ IsAtMost (price_at stride numbers.now k) (price_of e.parts) }
+    ensures { IsTrue result ↔ IsAtMost (price_at stride numbers.now k) (price_of e.now.parts) }
 {
     let [
         observations,
@@ -57,10 +57,10 @@ pub(crate) fn is_below(numbers: &[u32], stride: usize, k: usize, e: Energy) -> b
 
 // Whether `e` is at most member `k`.
 #[inline(always)]
-fn is_above(numbers: &[u32], stride: usize, k: usize, e: Energy) -> bool
+fn is_above(numbers: &[u32], stride: usize, k: usize, e: &Energy) -> bool
     requires whole { length numbers.now ≡ 7 * stride }
     requires room { k < stride }
-    ensures { IsTrue result ↔ IsAtMost (price_of e.parts) (price_at stride numbers.now k) }
+    ensures { IsTrue result ↔ IsAtMost (price_of e.now.parts) (price_at stride numbers.now k) }
 {
     let [
         observations,
@@ -105,10 +105,10 @@ fn kept_below(kept: u32x8, numbers: &[u32], at: usize, bound: u32) -> u32x8
 
 // Lane `i` is 1 exactly where member `k + i` is at most `e`.
 #[inline(always)]
-fn lanes_below(numbers: &[u32], stride: usize, k: usize, e: Energy) -> u32x8
+fn lanes_below(numbers: &[u32], stride: usize, k: usize, e: &Energy) -> u32x8
     requires whole { length numbers.now ≡ 7 * stride }
     requires room { k + 8 ≤ stride }
-    ensures { (i : ℕ) → i < 8 → slice_index result i ≡ 1 ↔ IsAtMost (price_at stride numbers.now (k + i)) (price_of e.parts) }
+    ensures { (i : ℕ) → i < 8 → slice_index result i ≡ 1 ↔ IsAtMost (price_at stride numbers.now (k + i)) (price_of e.now.parts) }
 {
     let first = kept_below(u32x8::splat(1), numbers, k, e.parts[0]);
     // in a list in order the first part settles most
@@ -135,10 +135,10 @@ fn kept_above(kept: u32x8, numbers: &[u32], at: usize, bound: u32) -> u32x8
 
 // Lane `i` is 1 exactly where `e` is at most member `k + i`.
 #[inline(always)]
-fn lanes_above(numbers: &[u32], stride: usize, k: usize, e: Energy) -> u32x8
+fn lanes_above(numbers: &[u32], stride: usize, k: usize, e: &Energy) -> u32x8
     requires whole { length numbers.now ≡ 7 * stride }
     requires room { k + 8 ≤ stride }
-    ensures { (i : ℕ) → i < 8 → slice_index result i ≡ 1 ↔ IsAtMost (price_of e.parts) (price_at stride numbers.now (k + i)) }
+    ensures { (i : ℕ) → i < 8 → slice_index result i ≡ 1 ↔ IsAtMost (price_of e.now.parts) (price_at stride numbers.now (k + i)) }
 {
     let first = kept_above(u32x8::splat(1), numbers, k, e.parts[0]);
     // in a list in order the first part settles most
@@ -154,32 +154,32 @@ fn lanes_above(numbers: &[u32], stride: usize, k: usize, e: Energy) -> u32x8
 
 // The first of the members from `k` on that is at most `e`, or 8 where none of the eight is.
 #[inline(always)]
-fn first_below_of_eight(numbers: &[u32], stride: usize, k: usize, e: Energy) -> usize
+fn first_below_of_eight(numbers: &[u32], stride: usize, k: usize, e: &Energy) -> usize
     requires whole { length numbers.now ≡ 7 * stride }
     requires room { k + 8 ≤ stride }
-    ensures { IsFirst (λ i. IsAtMost (price_at stride numbers.now (k + i)) (price_of e.parts)) 8 result }
+    ensures { IsFirst (λ i. IsAtMost (price_at stride numbers.now (k + i)) (price_of e.now.parts)) 8 result }
 {
     first_one(lanes_below(numbers, stride, k, e))
 }
 
 // The first of the members from `k` on that `e` is at most, or 8 where it is at most none of the eight.
 #[inline(always)]
-fn first_above_of_eight(numbers: &[u32], stride: usize, k: usize, e: Energy) -> usize
+fn first_above_of_eight(numbers: &[u32], stride: usize, k: usize, e: &Energy) -> usize
     requires whole { length numbers.now ≡ 7 * stride }
     requires room { k + 8 ≤ stride }
-    ensures { IsFirst (λ i. IsAtMost (price_of e.parts) (price_at stride numbers.now (k + i))) 8 result }
+    ensures { IsFirst (λ i. IsAtMost (price_of e.now.parts) (price_at stride numbers.now (k + i))) 8 result }
 {
     first_one(lanes_above(numbers, stride, k, e))
 }
 
 // The first of the `n` members that is at most `e`, or `n` where there is none. None of the first `k` is one.
 #[inline(always)]
-fn rest_below(numbers: &[u32], stride: usize, k: usize, n: usize, e: Energy) -> usize
+fn rest_below(numbers: &[u32], stride: usize, k: usize, n: usize, e: &Energy) -> usize
     requires whole { length numbers.now ≡ 7 * stride }
     requires room { n ≤ stride }
     requires start { k ≤ n }
-    requires passed { (i : ℕ) → i < k → ¬ IsAtMost (price_at stride numbers.now i) (price_of e.parts) }
-    ensures { IsFirst (λ i. IsAtMost (price_at stride numbers.now i) (price_of e.parts)) n result }
+    requires passed { (i : ℕ) → i < k → ¬ IsAtMost (price_at stride numbers.now i) (price_of e.now.parts) }
+    ensures { IsFirst (λ i. IsAtMost (price_at stride numbers.now i) (price_of e.now.parts)) n result }
 {
     let mut at = k;
     while at < n {
@@ -193,10 +193,10 @@ fn rest_below(numbers: &[u32], stride: usize, k: usize, n: usize, e: Energy) -> 
 
 // The same of a list of any length, in blocks of eight.
 #[inline(never)]
-fn blocks_below(numbers: &[u32], stride: usize, n: usize, e: Energy) -> usize
+fn blocks_below(numbers: &[u32], stride: usize, n: usize, e: &Energy) -> usize
     requires whole { length numbers.now ≡ 7 * stride }
     requires room { n ≤ stride }
-    ensures { IsFirst (λ i. IsAtMost (price_at stride numbers.now i) (price_of e.parts)) n result }
+    ensures { IsFirst (λ i. IsAtMost (price_at stride numbers.now i) (price_of e.now.parts)) n result }
 {
     let mut k = 0;
     while n - k >= LANES {
@@ -211,10 +211,10 @@ fn blocks_below(numbers: &[u32], stride: usize, n: usize, e: Energy) -> usize
 
 // The first of the `n` members that is at most `e`, or `n` where there is none.
 #[inline(always)]
-pub(crate) fn first_below(numbers: &[u32], stride: usize, n: usize, e: Energy) -> usize
+pub(crate) fn first_below(numbers: &[u32], stride: usize, n: usize, e: &Energy) -> usize
     requires whole { length numbers.now ≡ 7 * stride }
     requires room { n ≤ stride }
-    ensures { IsFirst (λ i. IsAtMost (price_at stride numbers.now i) (price_of e.parts)) n result }
+    ensures { IsFirst (λ i. IsAtMost (price_at stride numbers.now i) (price_of e.now.parts)) n result }
 {
     if n < LANES {
         return rest_below(numbers, stride, 0, n, e);
@@ -224,12 +224,12 @@ pub(crate) fn first_below(numbers: &[u32], stride: usize, n: usize, e: Energy) -
 
 // The first of the `n` members that `e` is at most, or `n` where there is none. None of the first `k` is one.
 #[inline(always)]
-fn rest_above(numbers: &[u32], stride: usize, k: usize, n: usize, e: Energy) -> usize
+fn rest_above(numbers: &[u32], stride: usize, k: usize, n: usize, e: &Energy) -> usize
     requires whole { length numbers.now ≡ 7 * stride }
     requires room { n ≤ stride }
     requires start { k ≤ n }
-    requires passed { (i : ℕ) → i < k → ¬ IsAtMost (price_of e.parts) (price_at stride numbers.now i) }
-    ensures { IsFirst (λ i. IsAtMost (price_of e.parts) (price_at stride numbers.now i)) n result }
+    requires passed { (i : ℕ) → i < k → ¬ IsAtMost (price_of e.now.parts) (price_at stride numbers.now i) }
+    ensures { IsFirst (λ i. IsAtMost (price_of e.now.parts) (price_at stride numbers.now i)) n result }
 {
     let mut at = k;
     while at < n {
@@ -243,10 +243,10 @@ fn rest_above(numbers: &[u32], stride: usize, k: usize, n: usize, e: Energy) -> 
 
 // The same of a list of any length, in blocks of eight.
 #[inline(never)]
-fn blocks_above(numbers: &[u32], stride: usize, n: usize, e: Energy) -> usize
+fn blocks_above(numbers: &[u32], stride: usize, n: usize, e: &Energy) -> usize
     requires whole { length numbers.now ≡ 7 * stride }
     requires room { n ≤ stride }
-    ensures { IsFirst (λ i. IsAtMost (price_of e.parts) (price_at stride numbers.now i)) n result }
+    ensures { IsFirst (λ i. IsAtMost (price_of e.now.parts) (price_at stride numbers.now i)) n result }
 {
     let mut k = 0;
     while n - k >= LANES {
@@ -261,10 +261,10 @@ fn blocks_above(numbers: &[u32], stride: usize, n: usize, e: Energy) -> usize
 
 // The first of the `n` members that `e` is at most, or `n` where there is none.
 #[inline(always)]
-pub(crate) fn first_above(numbers: &[u32], stride: usize, n: usize, e: Energy) -> usize
+pub(crate) fn first_above(numbers: &[u32], stride: usize, n: usize, e: &Energy) -> usize
     requires whole { length numbers.now ≡ 7 * stride }
     requires room { n ≤ stride }
-    ensures { IsFirst (λ i. IsAtMost (price_of e.parts) (price_at stride numbers.now i)) n result }
+    ensures { IsFirst (λ i. IsAtMost (price_of e.now.parts) (price_at stride numbers.now i)) n result }
 {
     if n < LANES {
         return rest_above(numbers, stride, 0, n, e);
@@ -286,10 +286,10 @@ fn mark_eight(kept: u32x8, k: usize, marks: &mut [bool])
 }
 
 // Place `k` becomes whether `e` is at most member `k`.
-pub(crate) fn mark_above(numbers: &[u32], stride: usize, e: Energy, marks: &mut [bool])
+pub(crate) fn mark_above(numbers: &[u32], stride: usize, e: &Energy, marks: &mut [bool])
     requires whole { length numbers.now ≡ 7 * stride }
     requires room { length marks.old ≤ stride }
-    ensures { (i : ℕ) → i < length marks.new → IsTrue (slice_index_or marks.new i false) ↔ IsAtMost (price_of e.parts) (price_at stride numbers.now i) }
+    ensures { (i : ℕ) → i < length marks.new → IsTrue (slice_index_or marks.new i false) ↔ IsAtMost (price_of e.now.parts) (price_at stride numbers.now i) }
 {
     let n = marks.len();
     let mut k = 0;

@@ -41,23 +41,23 @@ impl Members {
     }
 
     #[inline(always)]
-    pub(crate) fn covers(&self, e: Energy) -> bool
-        ensures { IsTrue result ↔ Covers (prices_held self.now) (price_of e.parts) }
+    pub(crate) fn covers(&self, e: &Energy) -> bool
+        ensures { IsTrue result ↔ Covers (prices_held self.now) (price_of e.now.parts) }
     {
         match self {
             Members::Empty => false,
-            Members::One(f) => is_at_most(*f, e),
+            Members::One(f) => is_at_most(f, e),
             Members::Many(columns) => columns.covers(e),
         }
     }
 
     // Drops the members that `e` is at most, and puts `e` in its place. Memory is taken before anything changes.
-    pub(crate) fn place(&mut self, alloc: Global, e: Energy) -> Result<(), AllocError>
-        ensures list { OnOk result (prices_held self.new ≡ placed_price (price_of e.parts) (not_above (price_of e.parts) (prices_held self.old))) }
+    pub(crate) fn place(&mut self, alloc: Global, e: &Energy) -> Result<(), AllocError>
+        ensures list { OnOk result (prices_held self.new ≡ placed_price (price_of e.now.parts) (not_above (price_of e.now.parts) (prices_held self.old))) }
         ensures err { OnErr result (prices_held self.new ≡ prices_held self.old) }
     {
         match self {
-            Members::Empty => *self = Members::One(e),
+            Members::Empty => *self = Members::One(*e),
             Members::One(f) => {
                 let f = *f;
                 *self = beside(alloc, f, e)?;
@@ -91,18 +91,18 @@ impl Members {
 
 // Whether each part of `f` is at most that of `e`: one energy is a row in columns of one.
 #[inline(always)]
-fn is_at_most(f: Energy, e: Energy) -> bool
-    ensures { IsTrue result ↔ IsAtMost (price_of f.parts) (price_of e.parts) }
+fn is_at_most(f: &Energy, e: &Energy) -> bool
+    ensures { IsTrue result ↔ IsAtMost (price_of f.now.parts) (price_of e.now.parts) }
 {
     is_below(f.parts.as_slice(), 1, 0, e)
 }
 
 // The members where `e` comes to `f`, which may go.
-fn beside(alloc: Global, f: Energy, e: Energy) -> Result<Members, AllocError>
-    ensures { IfOk result (λ made. prices_held made ≡ placed_price (price_of e.parts) (not_above (price_of e.parts) (price_of f.parts ∷ []))) }
+fn beside(alloc: Global, f: Energy, e: &Energy) -> Result<Members, AllocError>
+    ensures { IfOk result (λ made. prices_held made ≡ placed_price (price_of e.now.parts) (not_above (price_of e.now.parts) (price_of f.parts ∷ []))) }
 {
-    if is_at_most(e, f) {
-        return Ok(Members::One(e));
+    if is_at_most(e, &f) {
+        return Ok(Members::One(*e));
     }
     let mut both = Columns::new(alloc);
     both.push(f)?;

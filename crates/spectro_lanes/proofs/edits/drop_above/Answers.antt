@@ -8,13 +8,13 @@ use Rattle.spectro_lanes.proofs.edits.drop_above.Goals as goal
 pub loop-k-init : goal.loop-k-init
 loop-k-init c = (
   omega arith,
-  sym (not_above-none (price_of c.args.e.parts) (price_at c.args.stride c.args.numbers.now) c.first_above-first.result c.first_above-first.ensures.before),
+  sym (not_above-none (price_of c.args.e.now.parts) (price_at c.args.stride c.args.numbers.now) c.first_above-first.result c.first_above-first.ensures.before),
   (λ i from low. refl),
 )
 
 pub loop-k-preserved : goal.loop-k-preserved
 loop-k-preserved c =
-    let e = price_of c.args.e.parts in
+    let e = price_of c.args.e.now.parts in
     let k = c.loop-k.k in
     let was = c.loop-k.invariant in
     let old = price_at c.args.stride c.args.numbers.now in

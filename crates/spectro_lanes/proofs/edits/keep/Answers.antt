@@ -9,14 +9,14 @@ use Rattle.spectro_lanes.proofs.edits.keep.Goals as goal
 
 pub returns-then-leq-clause-list : goal.returns-then-leq-clause-list
 returns-then-leq-clause-list c =
-    let e = price_of c.args.e.parts in
+    let e = price_of c.args.e.now.parts in
     let kept = prices_in c.args.stride c.args.numbers.now c.args.kept in
     let above = subst (λ f. IsAtMost e f) c.energy_at-member.ensures (c.leq.ensures.0 c.if-leq.true) in
     sym (ap (λ ps. kept ++ ps) (not_above-dropped e (price_at c.args.stride c.args.numbers.now c.args.k) above) ∙ append-nil kept)
 
 pub returns-clause-list : goal.returns-clause-list
 returns-clause-list c =
-    let e = price_of c.args.e.parts in
+    let e = price_of c.args.e.now.parts in
     let old = price_at c.args.stride c.args.numbers.now in
     let new = price_at c.args.stride c.put_energy.new.numbers in
     let kept = prices_in c.args.stride c.args.numbers.now c.args.kept in

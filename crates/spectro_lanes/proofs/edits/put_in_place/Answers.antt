@@ -7,4 +7,4 @@ use Rattle.spectro_lanes.proofs.edits.put_in_place.Goals as goal
 pub returns : goal.returns
 returns c =
     c.put_at.ensures
-    ∙ placed-firsts (price_of c.args.e.parts) (price_at c.args.stride c.args.numbers.now) c.args.n c.first_after-place.result c.first_after-place.ensures
+    ∙ placed-firsts (price_of c.args.e.now.parts) (price_at c.args.stride c.args.numbers.now) c.args.n c.first_after-place.result c.first_after-place.ensures

@@ -1,6 +1,6 @@
 use Rattle.std.proofs.Common.{◌≡◌, ◌∙◌, ap, sym, subst}
 use Rattle.std.proofs.lemmas.Bool.{true≢false}
-use Rattle.spectro_spec.specs.LeastPrices.{Rises, AreApart}
+use Rattle.spectro_spec.specs.LeastPrices.{Covers, Rises, AreApart}
 use Rattle.spectro_game.specs.MinimalElements.{inserted, not_above, placed_price}
 use Rattle.spectro_energy.specs.Energy.{price_of}
 use Rattle.spectro_antichain.proofs.Prices.{inserted-covered, inserted-new, inserted-antichain}
@@ -13,10 +13,12 @@ listed c =
     let e = price_of c.args.e.parts in
     c.in_ok-place.ensures.list
     ∙ ap (λ es. placed_price e (not_above e es)) c.self.view_is
-    ∙ inserted-new e c.args.self.now (λ covered. true≢false (sym (c.covers.ensures.1 covered) ∙ c.if-covers.false))
+    ∙ inserted-new e c.args.self.now (λ covered. true≢false (sym (c.covers.ensures.1 (subst (λ es. Covers es e) (sym c.self.view_is) covered)) ∙ c.if-covers.false))
 
 pub returns-then-covers-clause-list : goal.returns-then-covers-clause-list
-returns-then-covers-clause-list c = inserted-covered (price_of c.args.e.parts) c.args.self.now (c.covers.ensures.0 c.if-covers.true)
+returns-then-covers-clause-list c =
+    let e = price_of c.args.e.parts in
+    inserted-covered e c.args.self.now (subst (λ es. Covers es e) c.self.view_is (c.covers.ensures.0 c.if-covers.true))
 
 pub invariant_of-self : goal.invariant_of-self
 invariant_of-self c = subst (λ es. Rises es × AreApart es) (sym c.in_err-place.ensures.err) c.self.invariant

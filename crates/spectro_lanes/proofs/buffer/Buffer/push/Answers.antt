@@ -10,7 +10,7 @@ returns c =
     let old = c.args.self.now in
     let whole : length c.put_energy.new.numbers ≡ old.numbers.len = omega arith in
     ap (λ xs. prices_in old.stride xs (old.len + 1)) (with_items_is old.numbers c.put_energy.new.numbers whole)
-    ∙ firsts-push (price_at old.stride old.numbers.items) (price_at old.stride c.put_energy.new.numbers) old.len (price_of c.args.e.parts)
+    ∙ firsts-push (price_at old.stride old.numbers.items) (price_at old.stride c.put_energy.new.numbers) old.len (price_of c.args.e.now.parts)
     (λ i low. let apart : i ≢ old.len = omega arith in
     c.put_energy.ensures.others i (omega (arith, c.requires)) apart ∙ ap (λ xs. price_at old.stride xs i) c.as_mut_slice.ensures.value)
     c.put_energy.ensures.here

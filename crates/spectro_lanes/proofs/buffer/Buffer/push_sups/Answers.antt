@@ -13,7 +13,7 @@ pub returns : goal.returns
 returns c =
     let old = c.args.self.now in
     let from = c.args.from.now in
-    let with_e = λ (f : Price). sup f (price_of c.args.e.parts) in
+    let with_e = λ (f : Price). sup f (price_of c.args.e.now.parts) in
     let member = price_at from.stride from.numbers.items in
     let whole : length c.put_sups.new.to ≡ old.numbers.len = omega arith in
     ap (λ xs. prices_in old.stride xs (old.len + from.len)) (with_items_is old.numbers c.put_sups.new.to whole)

@@ -11,7 +11,7 @@ use Rattle.spectro_lanes.proofs.columns.Columns.covers.Goals as goal
 pub returns : goal.returns
 returns c =
     let buffer = c.self.inside.buffer in
-    let e = price_of c.args.e.parts in
+    let e = price_of c.args.e.now.parts in
     let first = subst (λ xs. IsFirst (λ i. IsAtMost (price_at buffer.stride xs i) e) buffer.len c.first_below-first.result) c.as_slice.ensures.value
     c.first_below-first.ensures in
     let covered = covers_first e (price_at buffer.stride buffer.numbers.items) buffer.len c.first_below-first.result first in
