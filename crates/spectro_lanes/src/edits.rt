@@ -1,5 +1,5 @@
 // Members dropped, and put in their place.
-ghost use Rattle.std.specs.Prelude.{◌≡◌, ℕ, ◌+◌, ◌*◌, ◌<◌, ◌≤◌, [], ◌∷◌, ◌++◌, length};
+ghost use Rattle.std.specs.Prelude.{◌≡◌, ◌↔◌, ℕ, ◌+◌, ◌*◌, ◌<◌, ◌≤◌, [], ◌∷◌, ◌++◌, length, IsTrue};
 ghost use Rattle.std.specs.List.{insert};
 ghost use Rattle.spectro_spec.specs.Price.{ComesBefore};
 ghost use Rattle.spectro_game.specs.MinimalElements.{not_above, placed_price};
@@ -44,6 +44,21 @@ pub(crate) fn drop_above(numbers: &mut [u32], stride: usize, n: usize, e: &Energ
     kept
 }
 
+// Whether `e` comes before member `k`.
+#[inline(always)]
+fn comes_before(numbers: &[u32], stride: usize, k: usize, e: &Energy) -> bool
+    requires whole { length numbers.now ≡ 7 * stride }
+    requires room { k < stride }
+    ensures { IsTrue result ↔ ComesBefore (price_of e.now.parts) (price_at stride numbers.now k) }
+{
+    // the first part settles most
+    let [first, ..] = e.parts;
+    if first != numbers[k] {
+        return first < numbers[k];
+    }
+    e.lex(energy_at(numbers, stride, k)) == Ordering::Less
+}
+
 // The first of the `n` members that `e` comes before, or `n` where there is none.
 fn first_after(numbers: &[u32], stride: usize, n: usize, e: &Energy) -> usize
     requires whole { length numbers.now ≡ 7 * stride }
@@ -51,7 +66,7 @@ fn first_after(numbers: &[u32], stride: usize, n: usize, e: &Energy) -> usize
     ensures { IsFirst (λ i. ComesBefore (price_of e.now.parts) (price_at stride numbers.now i)) n result }
 {
     for k in 0..n {
-        if e.lex(energy_at(numbers, stride, k)) == Ordering::Less {
+        if comes_before(numbers, stride, k, e) {
             return k;
         }
     }
