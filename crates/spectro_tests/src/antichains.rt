@@ -84,3 +84,18 @@ fn meets_a_copy_whole(rt: HostRuntime) -> Result<(), AllocError> {
     let both = high_and_low(rt.alloc())?;
     meets(&rt, rt.alloc(), &both)
 }
+
+fn clears(rt: &impl Abort, both: &mut Antichain) -> Result<(), AllocError> {
+    let copy = both.copy()?;
+    assert!(rt; both.is_same(&copy));
+    both.clear();
+    holds(rt, both, &[]);
+    assert!(rt; !both.is_same(&copy));
+    Ok(())
+}
+
+#[test]
+fn tells_a_list_that_was_cleared_from_its_copy(rt: HostRuntime) -> Result<(), AllocError> {
+    let mut both = high_and_low(rt.alloc())?;
+    clears(&rt, &mut both)
+}
