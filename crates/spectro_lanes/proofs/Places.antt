@@ -4,11 +4,11 @@ use Rattle.std.proofs.Common.{sym, ap, ◌∙◌, arith, max, set, get_or, get_o
 use Rattle.std.proofs.lemmas.Bool.{cases_lt, cases_order}
 use Rattle.std.proofs.lemmas.Nat.{mul-add-lt}
 
--- a row of an earlier column stands before the later column
+-- a row of an earlier column comes before the later column
 pub row_below : (j p stride i : ℕ) → j < p → i < stride → j * stride + i < p * stride
 row_below j p stride i low below = omega (arith, mul-add-lt j stride i p low below, mul_comm stride p)
 
--- other rows, and rows of other columns, stand elsewhere
+-- other rows, and rows of other columns, are elsewhere
 pub rows_apart : (j p stride i k : ℕ) → i < stride → k < stride → (j ≢ p) ⊎ (i ≢ k) → j * stride + i ≢ p * stride + k
 rows_apart j p stride i k low below apart same = elim (cases_order j p) [
   | inl equal ↦ let equals : j * stride ≡ p * stride = ap (λ x. x * stride) equal in

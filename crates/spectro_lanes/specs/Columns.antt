@@ -1,9 +1,9 @@
--- Members in columns: part j of member k stands at j * stride + k.
+-- Members in columns: part j of member k is at j * stride + k.
 use Rattle.std.specs.Prelude.{ℕ, ◌+◌, ◌*◌, ◌<◌, ◌≤◌, List, map, slice_index}
 use Rattle.std.specs.List.{range_with_len}
 use Rattle.spectro_spec.specs.Price.{Price}
 
--- the price whose parts stand in row k of the columns
+-- the price whose parts are row k of the columns
 abbrev pub price_at : ℕ → List ℕ → ℕ → Price
 price_at stride numbers k = record {
   observations = slice_index numbers (0 * stride + k);

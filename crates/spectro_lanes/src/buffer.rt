@@ -3,18 +3,16 @@ ghost use Rattle.std.specs.Vec.{vec_len};
 
 use crate::copies::{put_energy, put_sups};
 use crate::edits;
+use crate::lanes::PARTS;
 use spectro_energy::Energy;
 use std::alloc::{AllocError, Global};
-
-// the parts of an energy
-const PARTS: usize = 7;
 
 // how many members the first memory is for
 const FIRST_STRIDE: usize = 4;
 
 const ZERO: Energy = Energy { parts: [0; PARTS] };
 
-// Seven columns of numbers in one memory: part `j` of member `k` stands at `j * stride + k`.
+// Seven columns of numbers in one memory: part `j` of member `k` is at `j * stride + k`.
 #[derive(Drop)]
 pub(crate) struct Buffer {
     pub(crate) numbers: Vec<u32>,

@@ -104,7 +104,7 @@ impl Columns {
         Ok(())
     }
 
-    /// Whether some member is at most `e`.
+    // Whether some member is at most `e`.
     #[inline(always)]
     pub(crate) fn covers(&self, e: &Energy) -> bool
         ensures { IsTrue result ↔ Covers self.now (price_of e.now.parts) }
@@ -114,8 +114,8 @@ impl Columns {
         first < buffer.len
     }
 
-    /// Drops the members that `e` is at most, and puts `e` before the first that it comes before.
-    /// Memory is taken before anything changes.
+    // Drops the members that `e` is at most, and puts `e` before the first that it comes before.
+    // Memory is taken before anything changes.
     pub(crate) fn place(&mut self, e: &Energy) -> Result<(), AllocError>
         ensures list { OnOk result (self.new ≡ placed_price (price_of e.now.parts) (not_above (price_of e.now.parts) self.old)) }
         ensures err { OnErr result (self.new ≡ self.old) }
@@ -126,14 +126,14 @@ impl Columns {
         Ok(())
     }
 
-    /// Drops all members. Its memory is kept for the next ones.
+    // Drops all members. Its memory is kept for the next ones.
     pub(crate) fn clear(&mut self)
         ensures { self.new ≡ [] }
     {
         self.buffer.len = 0;
     }
 
-    /// A list of the same members, in memory of its own.
+    // A list of the same members, in memory of its own.
     pub(crate) fn copy(&self) -> Result<Columns, AllocError>
         ensures { IfOk result (λ copy. copy ≡ self.now) }
     {

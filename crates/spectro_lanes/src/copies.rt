@@ -4,7 +4,7 @@ ghost use Rattle.spectro_game.specs.Sup.{sup};
 ghost use Rattle.spectro_energy.specs.Energy.{price_of};
 ghost use Rattle.spectro_lanes.specs.Columns.{price_at};
 
-use crate::lanes::LANES;
+use crate::lanes::{LANES, PARTS};
 use spectro_energy::Energy;
 use std::simd::prelude::*;
 
@@ -56,7 +56,7 @@ pub(crate) fn put_sups(
     ensures here { (i : ℕ) → i < n → price_at stride to.new (at + i) ≡ sup (price_at from_stride from.now i) (price_of e.now.parts) }
     ensures others { (i : ℕ) → i < stride → (i < at) ⊎ (at + n ≤ i) → price_at stride to.new i ≡ price_at stride to.old i }
 {
-    for part in 0..7 {
+    for part in 0..PARTS {
         put_greater(
             from,
             part * from_stride,
@@ -75,7 +75,7 @@ pub(crate) fn put_energy(numbers: &mut [u32], stride: usize, k: usize, e: &Energ
     ensures here { price_at stride numbers.new k ≡ price_of e.now.parts }
     ensures others { (i : ℕ) → i < stride → i ≢ k → price_at stride numbers.new i ≡ price_at stride numbers.old i }
 {
-    for part in 0..7 {
+    for part in 0..PARTS {
         numbers[part * stride + k] = e.parts[part];
     }
 }

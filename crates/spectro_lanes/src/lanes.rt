@@ -7,10 +7,13 @@ ghost use Rattle.spectro_lanes.specs.Columns.{price_at, IsFirst};
 use spectro_energy::Energy;
 use std::simd::prelude::*;
 
+// the parts of an energy
+pub(crate) const PARTS: usize = 7;
+
 // how many members one vector has a part of
 pub(crate) const LANES: usize = 8;
 
-// The energy whose parts stand in row `k`.
+// The energy whose parts are row `k`.
 #[inline(always)]
 pub(crate) fn energy_at(numbers: &[u32], stride: usize, k: usize) -> Energy
     requires whole { length numbers.now ≡ 7 * stride }
@@ -116,7 +119,7 @@ fn lanes_below(numbers: &[u32], stride: usize, k: usize, e: &Energy) -> u32x8
         return first;
     }
     let mut kept = first;
-    for part in 1..7 {
+    for part in 1..PARTS {
         kept = kept_below(kept, numbers, part * stride + k, e.parts[part]);
     }
     kept
@@ -146,7 +149,7 @@ fn lanes_above(numbers: &[u32], stride: usize, k: usize, e: &Energy) -> u32x8
         return first;
     }
     let mut kept = first;
-    for part in 1..7 {
+    for part in 1..PARTS {
         kept = kept_above(kept, numbers, part * stride + k, e.parts[part]);
     }
     kept
@@ -191,7 +194,7 @@ fn rest_below(numbers: &[u32], stride: usize, k: usize, n: usize, e: &Energy) ->
     n
 }
 
-// The same of a list of any length, in blocks of eight.
+// The same in blocks of eight, with the rest row by row.
 #[inline(never)]
 fn blocks_below(numbers: &[u32], stride: usize, n: usize, e: &Energy) -> usize
     requires whole { length numbers.now ≡ 7 * stride }
@@ -241,7 +244,7 @@ fn rest_above(numbers: &[u32], stride: usize, k: usize, n: usize, e: &Energy) ->
     n
 }
 
-// The same of a list of any length, in blocks of eight.
+// The same in blocks of eight, with the rest row by row.
 #[inline(never)]
 fn blocks_above(numbers: &[u32], stride: usize, n: usize, e: &Energy) -> usize
     requires whole { length numbers.now ≡ 7 * stride }
