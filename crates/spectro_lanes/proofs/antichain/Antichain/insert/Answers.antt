@@ -11,9 +11,11 @@ use Rattle.spectro_lanes.proofs.antichain.Antichain.insert.Goals as goal
 listed : (c : goal.In_ok-place) → prices_held c.place.new.self ≡ inserted (price_of c.args.e.parts) c.args.self.now
 listed c =
     let e = price_of c.args.e.parts in
+    let apart = λ (covered : Covers c.args.self.now e).
+    true≢false (sym (c.covers.ensures.1 (subst (λ es. Covers es e) (sym c.self.view_is) covered)) ∙ c.if-covers.false) in
     c.in_ok-place.ensures.list
     ∙ ap (λ es. placed_price e (not_above e es)) c.self.view_is
-    ∙ inserted-new e c.args.self.now (λ covered. true≢false (sym (c.covers.ensures.1 (subst (λ es. Covers es e) (sym c.self.view_is) covered)) ∙ c.if-covers.false))
+    ∙ inserted-new e c.args.self.now apart
 
 pub returns-then-covers-clause-list : goal.returns-then-covers-clause-list
 returns-then-covers-clause-list c =
