@@ -1,2 +1,4 @@
 pub mod Bounds
 pub mod Tables
+pub mod Entries
+pub mod Laws
