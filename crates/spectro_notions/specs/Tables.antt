@@ -1,6 +1,6 @@
 -- Tables of notions, which are numbered from 0.
-use Rattle.std.specs.Prelude.{ℕ, ◌≡◌, ◌<◌, ◌≤◌, List, Option, Some, length, map, slice_get}
-use Rattle.std.specs.List.{IsDistinct}
+use Rattle.std.specs.Prelude.{Bool, ℕ, ◌≡◌, ◌<◌, ◌≤◌, List, Option, Some, length, map, slice_get}
+use Rattle.std.specs.List.{IsDistinct, list_any}
 use Rattle.std.specs.Option.{option_map}
 use Rattle.std.specs.Str.{bytes_eq}
 use Rattle.spectro_spec.specs.Notion.{Bound, IsBelow, Notion}
@@ -17,6 +17,10 @@ name_at table k = option_map (λ notion. notion.name) (slice_get table k)
 -- the bound of the notion with this number, where there is one
 abbrev pub bound_at : List Notion → ℕ → Option Bound
 bound_at table k = option_map (λ notion. notion.bound) (slice_get table k)
+
+-- a notion of the table has the name
+abbrev pub has_name : List Notion → List ℕ → Bool
+has_name table name = list_any (λ notion. bytes_eq notion.name name) table
 
 -- no name stands twice, and there are few
 pub record AreNotions (table : List Notion) : Type 0 where

@@ -1,0 +1,25 @@
+-- What the code finds in a line.
+use Rattle.std.specs.Prelude.{ℕ, ◌≡◌, ◌<◌, List, codes, Option, None, Some, zero, suc, length, slice_index_or, if◌then◌else◌}
+use Rattle.std.specs.Option.{option_map}
+use Rattle.std.specs.Str.{bytes_eq}
+use Rattle.spectro_io.specs.Numbers.{number_of}
+use Rattle.spectro_io.specs.Tokens.{first_token, after_token}
+
+-- the part that the word says, as far as 64 bits go
+abbrev pub part_in : List ℕ → Option (Option ℕ)
+part_in word = if bytes_eq word (codes "*") then Some None else option_map Some (number_of word)
+
+-- what is left of the text behind so many words
+abbrev pub after_words : ℕ → List ℕ → List ℕ
+after_words zero text = text
+after_words (suc k) text = after_token (after_words k text)
+
+-- one of the first six words says no part
+abbrev pub LacksPart : List ℕ → Type 0
+LacksPart text = (k : ℕ) × (k < 6) × (part_in (first_token (after_words k text)) ≡ None)
+
+-- so many words say the first of the six parts, and this is left of the text behind them
+pub record AreRead (text : List ℕ) (count : ℕ) (parts : List (Option ℕ)) (rest : List ℕ) : Type 0 where
+  pub six : length parts ≡ 6
+  pub said : (k : ℕ) → k < count → part_in (first_token (after_words k text)) ≡ Some (slice_index_or parts k None)
+  pub left : rest ≡ after_words count text

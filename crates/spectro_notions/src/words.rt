@@ -1,0 +1,50 @@
+ghost use Rattle.std.specs.Prelude.{◌≡◌, MatchOption};
+ghost use Rattle.std.specs.List.{list_all};
+ghost use Rattle.spectro_notions.specs.LineReading.{AreRead, LacksPart, part_in};
+ghost use Rattle.spectro_notions.specs.NotionLines.{is_name, is_name_byte};
+
+use crate::MAX_NAME_BYTES;
+use spectro_io::{number, token_at};
+
+fn is_name_byte(byte: u8) -> bool
+    ensures { result ≡ is_name_byte byte }
+{
+    byte.is_ascii_lowercase() || byte.is_ascii_digit() || byte == b'-'
+}
+
+fn has_name_bytes(word: &[u8]) -> bool
+    ensures { result ≡ list_all is_name_byte word.now }
+{
+    word.iter().all(|byte| is_name_byte(*byte))
+}
+
+/// Whether the word is a name.
+pub(crate) fn is_name(word: &[u8]) -> bool
+    ensures { result ≡ is_name word.now }
+{
+    !word.is_empty() && word.len() <= MAX_NAME_BYTES && has_name_bytes(word)
+}
+
+// The part of a bound that the word says: none for `*`, and the greatest `u64` for a greater number.
+fn part_of(word: &[u8]) -> Option<Option<u64>>
+    ensures { result ≡ part_in word.now }
+{
+    if word == b"*".as_slice() {
+        return Some(None);
+    }
+    Some(Some(number(word)?))
+}
+
+/// The parts of a bound that the first six words say, and what stands behind them.
+pub(crate) fn parts_at(text: &[u8]) -> Option<([Option<u64>; 6], &[u8])>
+    ensures { MatchOption result (LacksPart text.now) (λ found. AreRead text.now 6 found.0 found.1.now) }
+{
+    let mut parts = [None; 6];
+    let mut rest = text;
+    for part in parts.iter_mut() {
+        let (word, behind) = token_at(rest);
+        *part = part_of(word)?;
+        rest = behind;
+    }
+    Some((parts, rest))
+}
