@@ -1,9 +1,9 @@
-ghost use Rattle.std.specs.Prelude.{◌≡◌, MatchOption};
+ghost use Rattle.std.specs.Prelude.{◌≡◌, true, false, MatchOption};
 ghost use Rattle.std.specs.List.{list_all};
 ghost use Rattle.spectro_notions.specs.LineReading.{AreRead, LacksPart, part_in};
-ghost use Rattle.spectro_notions.specs.NotionLines.{is_name, is_name_byte};
+ghost use Rattle.spectro_notions.specs.NotionLines.{is_name, is_name_byte, is_small};
 
-use crate::MAX_NAME_BYTES;
+use crate::{Bound, MAX_NAME_BYTES};
 use spectro_io::{number, token_at};
 
 fn is_name_byte(byte: u8) -> bool
@@ -47,4 +47,31 @@ pub(crate) fn parts_at(text: &[u8]) -> Option<([Option<u64>; 6], &[u8])>
         rest = behind;
     }
     Some((parts, rest))
+}
+
+// The part in 32 bits, where it fits.
+fn narrow(part: Option<u64>) -> Option<Option<u32>>
+    ensures { MatchOption result (is_small part ≡ false) (λ found. (found ≡ part) × (is_small part ≡ true)) }
+{
+    match part {
+        None => Some(None),
+        Some(most) => Some(Some(u32::try_from(most).ok()?)),
+    }
+}
+
+/// The bound of these parts, where each fits 32 bits.
+pub(crate) fn bound_in(parts: [Option<u64>; 6]) -> Option<Bound>
+    ensures { MatchOption result (list_all is_small parts ≡ false) (λ bound. (bound.parts ≡ parts) × (list_all is_small parts ≡ true)) }
+{
+    let [observations, conjunctions, deepest, other, negative, negations] = parts;
+    Some(Bound {
+        parts: [
+            narrow(observations)?,
+            narrow(conjunctions)?,
+            narrow(deepest)?,
+            narrow(other)?,
+            narrow(negative)?,
+            narrow(negations)?,
+        ],
+    })
 }
