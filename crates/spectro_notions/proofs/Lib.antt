@@ -1,3 +1,5 @@
 pub mod TableLemmas
 pub mod Holding
 pub mod SixParts
+pub mod PartWords
+pub mod LineForms

@@ -4,4 +4,5 @@ pub mod Entries
 pub mod Kinds
 pub mod NotionLines
 pub mod LineReading
+pub mod Faults
 pub mod Laws

@@ -18,11 +18,23 @@ fn has_name_bytes(word: &[u8]) -> bool
     word.iter().all(|byte| is_name_byte(*byte))
 }
 
-/// Whether the word is a name.
-pub(crate) fn is_name(word: &[u8]) -> bool
+fn is_name(word: &[u8]) -> bool
     ensures { result ≡ is_name word.now }
 {
     !word.is_empty() && word.len() <= MAX_NAME_BYTES && has_name_bytes(word)
+}
+
+/// The word as a text, where it is a name.
+pub(crate) fn name_of(word: &[u8]) -> Option<&str>
+    ensures { MatchOption result (is_name word.now ≡ false) (λ name. (name.now ≡ word.now) × (is_name word.now ≡ true)) }
+{
+    if !is_name(word) {
+        return None;
+    }
+    let Ok(name) = str::from_utf8(word) else {
+        return None;
+    };
+    Some(name)
 }
 
 // The part of a bound that the word says: none for `*`, and the greatest `u64` for a greater number.
@@ -63,7 +75,14 @@ fn narrow(part: Option<u64>) -> Option<Option<u32>>
 pub(crate) fn bound_in(parts: [Option<u64>; 6]) -> Option<Bound>
     ensures { MatchOption result (list_all is_small parts ≡ false) (λ bound. (bound.parts ≡ parts) × (list_all is_small parts ≡ true)) }
 {
-    let [observations, conjunctions, deepest, other, negative, negations] = parts;
+    let [
+        observations,
+        conjunctions,
+        deepest,
+        other,
+        negative,
+        negations,
+    ] = parts;
     Some(Bound {
         parts: [
             narrow(observations)?,
