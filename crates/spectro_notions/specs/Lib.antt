@@ -5,4 +5,5 @@ pub mod Kinds
 pub mod NotionLines
 pub mod LineReading
 pub mod Faults
+pub mod NotionTexts
 pub mod Laws

@@ -1,10 +1,11 @@
 -- What the code finds in a line.
-use Rattle.std.specs.Prelude.{map, ℕ, ◌≡◌, ◌<◌, List, codes, Option, None, Some, zero, suc, length, slice_index_or, if◌then◌else◌}
+use Rattle.std.specs.Prelude.{[], ◌∷◌, ◌++◌, map, ℕ, ◌≡◌, ◌<◌, List, codes, Option, None, Some, zero, suc, length, slice_index_or, if◌then◌else◌}
 use Rattle.std.specs.Option.{option_map}
 use Rattle.std.specs.Str.{bytes_eq}
 use Rattle.spectro_io.specs.Numbers.{capped, number_of}
 use Rattle.spectro_io.specs.Tokens.{first_token, after_token}
-use Rattle.spectro_notions.specs.NotionLines.{HasForm}
+use Rattle.spectro_spec.specs.Notion.{Notion}
+use Rattle.spectro_notions.specs.NotionLines.{HasForm, HasPlace}
 use Rattle.spectro_notions.specs.declared.line.Fields.{Fields}
 
 -- the part, or the greatest of 64 bits where it is greater
@@ -39,3 +40,8 @@ pub record AreFieldsOf (line : List ℕ) (fields : Fields) : Type 0 where
   pub parts : List (Option ℕ)
   pub form : HasForm line fields.name.now parts
   pub capped : fields.parts ≡ map capped_part parts
+
+-- the notion was put behind the others, where it has its place
+pub record IsPlaced (old : List Notion) (notion : Notion) (new : List Notion) : Type 0 where
+  pub place : HasPlace old notion
+  pub list : new ≡ old ++ notion ∷ []

@@ -1,6 +1,7 @@
-ghost use Rattle.std.specs.Prelude.{◌≡◌, ◌↔◌, ◌<◌, Some, IsTrue, length};
+ghost use Rattle.std.specs.Prelude.{◌≡◌, ◌↔◌, ◌<◌, Some, IsTrue, length, map};
 ghost use Rattle.spectro_spec.specs.Spectrum.{notions};
 ghost use Rattle.spectro_notions.specs.Bounds.{bound_of};
+ghost use Rattle.spectro_notions.specs.Entries.{notion_in};
 ghost use Rattle.spectro_notions.specs.Tables.{IsBelowIn, IsTable, bound_at, name_at};
 
 use crate::entry::Entry;
@@ -43,6 +44,16 @@ impl Notions {
     {
         Notions {
             table: Table::Spectrum,
+        }
+    }
+
+    /// The notions of lines.
+    pub(crate) fn of_lines(entries: Vec<Entry>) -> Notions
+        requires { IsTable (map notion_in entries.items) }
+        ensures { result ≡ map notion_in entries.items }
+    {
+        Notions {
+            table: Table::Read(entries),
         }
     }
 
