@@ -24,6 +24,10 @@ mod line_readers;
 #[cfg(test)]
 mod node_lines;
 #[cfg(test)]
+mod notion_texts;
+#[cfg(test)]
+mod notions;
+#[cfg(test)]
 mod prices;
 #[cfg(test)]
 mod printed_formulas;
