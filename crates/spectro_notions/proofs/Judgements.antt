@@ -107,12 +107,12 @@ module _ (given : List Notion) (lines : ℕ) where
   end-cases = by given refl
     where
       by : (notions : List Notion) → given ≡ notions → ((table : List Notion) × IsEnd given table) ⊎ ((fault : ℕ × NotionKind) × IsEmpty given lines fault.0 fault.1)
-      by [] none = inr ((lines + 1, NoNotion), record { none = none; behind = refl; missing = refl })
+      by [] none = inr ((lines + 1, NoNotion), record { none = none; next = refl; missing = refl })
       by (notion ∷ notions) is = inl (given, record { some = omega (arith, ap length is); same = refl })
 
   pub end_fault-once : (one two : ℕ × NotionKind) → IsEmpty given lines one.0 one.1 → IsEmpty given lines two.0 two.1 → one ≡ two
   end_fault-once one two first second =
-      let number : one.0 ≡ two.0 = first.behind ∙ sym second.behind in
+      let number : one.0 ≡ two.0 = first.next ∙ sym second.next in
       let kind : one.1 ≡ two.1 = first.missing ∙ sym second.missing in
       let same : ◌≡◌ {A = ℕ × NotionKind} (one.0, one.1) (two.0, two.1) = rw (number, kind) refl in
       same

@@ -1,8 +1,10 @@
 -- Each text is of one table or has one first fault, and a long text is judged by its front.
-use Rattle.std.proofs.Common.{◌≡◌, ◌∙◌, ℕ, ◌≤◌, List, length, take, sym, ap, inl, inr}
+use Rattle.std.proofs.Common.{◌≡◌, ◌∙◌, ℕ, ◌+◌, ◌≤◌, List, [], ◌∷◌, length, take, sym, ap, subst, inl, inr}
 use Rattle.std.specs.Prelude.{◌⊎◌}
 use Rattle.spectro_io.specs.Limits.{read_limit}
+use Rattle.spectro_io.specs.Lines.{first_line, lines_of}
 use Rattle.spectro_lines.specs.Texts as lines
+use Rattle.spectro_lines.specs.Texts.{Before, nothing_before, behind, LeadsTo, skipped, given, Follow}
 use Rattle.spectro_lines.proofs.LongTexts as long
 use Rattle.spectro_lines.proofs.Outcomes.{AreLaws, text_settled}
 use Rattle.spectro_lines.proofs.Settled.{IsSettled, settled_by, one_value, not_both, one_or_other}
@@ -11,6 +13,8 @@ use Rattle.spectro_spec.specs.Notion.{Notion}
 use Rattle.spectro_notions.specs.NotionTexts.{notion_form, IsNotionText, IsFirstFault}
 use Rattle.spectro_notions.specs.declared.error.NotionFault.{NotionFault}
 use Rattle.spectro_notions.specs.declared.error.NotionKind.{NotionKind}
+use Rattle.spectro_notions.specs.Tables.{AreNotions, IsTable}
+use Rattle.spectro_notions.proofs.Growing.{AreNotions-nil, AreNotions-push}
 use Rattle.spectro_notions.proofs.Judgements.{gives-cases, gives-once, line_fault-once, gives-no_fault, end-cases, end_fault-once, end-no_fault}
 
 notion_laws : AreLaws notion_form
@@ -50,3 +54,22 @@ module _ (text : List ℕ) where
 
   pub read_front_no_text : (table : List Notion) → IsNotionText (take read_limit text) table → read_limit ≤ length text → ⊥
   read_front_no_text table = long.front_no_text notion_form read_limit text table long.read_limit-large
+
+-- ---- tables
+kept-line : (before next : List Notion) (number : ℕ) (line : List ℕ) → LeadsTo notion_form before number line next → AreNotions before → AreNotions next
+kept-line before next number line (skipped blank same) are = subst AreNotions (sym same) are
+kept-line before next number line (given some gives) are =
+    subst AreNotions (sym gives.list) (AreNotions-push before gives.notion are gives.place.new gives.place.room)
+
+kept-lines : (before : Before (List Notion)) (lines : List (List ℕ)) (after : Before (List Notion)) → Follow notion_form before lines after
+    → AreNotions before.state → AreNotions after.state
+kept-lines before [] after follow are = subst (λ (before : Before (List Notion)). AreNotions before.state) (sym follow) are
+kept-lines before (line ∷ lines) after follow are =
+    kept-lines (behind before line follow.0) lines after follow.2
+    (kept-line before.state follow.0 (before.lines + 1) (first_line line) follow.1.leads are)
+
+-- what a text is of is a table
+pub IsTable-text : (text : List ℕ) (table : List Notion) → IsNotionText text table → IsTable table
+IsTable-text text table is =
+    let are = kept-lines (nothing_before notion_form) (lines_of text) is.after is.follow AreNotions-nil in
+    subst IsTable (sym is.ends.same) (record { some = is.ends.some; notions = are })

@@ -5,7 +5,7 @@ use Rattle.spectro_spec.specs.Notion.{Bound, Holds, Notion}
 use Rattle.spectro_spec.specs.System.{System}
 use Rattle.spectro_spec.specs.Weighing.{Weighing}
 use Rattle.spectro_notions.specs.NotionTexts.{IsNotionText, IsFirstFault}
-use Rattle.spectro_notions.specs.Tables.{IsBelowIn, bound_at}
+use Rattle.spectro_notions.specs.Tables.{IsBelowIn, IsTable, bound_at}
 use Rattle.spectro_notions.specs.declared.error.NotionFault.{NotionFault}
 
 -- the notion of the table with this number holds from p to q
@@ -25,6 +25,10 @@ EachTextHasAtMostOneTable = (text : List ℕ) (one other : List Notion) → IsNo
 -- a text has at most one first fault
 abbrev pub EachTextHasAtMostOneFirstFault : Type 0
 EachTextHasAtMostOneFirstFault = (text : List ℕ) (one other : NotionFault) → IsFirstFault text one → IsFirstFault text other → one ≡ other
+
+-- what a text is of is a table: one notion or more, with distinct names, and not too many
+abbrev pub TextsAreOfTables : Type 0
+TextsAreOfTables = (text : List ℕ) (table : List Notion) → IsNotionText text table → IsTable table
 
 -- the text of a table has no fault
 abbrev pub TextsOfTablesHaveNoFault : Type 0

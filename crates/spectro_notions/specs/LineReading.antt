@@ -16,7 +16,7 @@ capped_part part = option_map capped part
 abbrev pub part_in : List ℕ → Option (Option ℕ)
 part_in word = if bytes_eq word (codes "*") then Some None else option_map Some (number_of word)
 
--- what is left of the text behind so many words
+-- what is left of the text after so many words
 abbrev pub after_words : ℕ → List ℕ → List ℕ
 after_words zero text = text
 after_words (suc k) text = after_token (after_words k text)
@@ -25,7 +25,7 @@ after_words (suc k) text = after_token (after_words k text)
 abbrev pub LacksPart : List ℕ → Type 0
 LacksPart text = (k : ℕ) × (k < 6) × (part_in (first_token (after_words k text)) ≡ None)
 
--- so many words say the first of the six parts, and this is left of the text behind them
+-- so many words say the first of the six parts, and this is left of the text after them
 pub record AreRead (text : List ℕ) (count : ℕ) (parts : List (Option ℕ)) (rest : List ℕ) : Type 0 where
   pub six : length parts ≡ 6
   pub said : (k : ℕ) → k < count → part_in (first_token (after_words k text)) ≡ Some (slice_index_or parts k None)
@@ -41,7 +41,7 @@ pub record AreFieldsOf (line : List ℕ) (fields : Fields) : Type 0 where
   pub form : HasForm line fields.name.now parts
   pub capped : fields.parts ≡ map capped_part parts
 
--- the notion was put behind the others, where it has its place
+-- the notion was put after the others, where it has its place
 pub record IsPlaced (old : List Notion) (notion : Notion) (new : List Notion) : Type 0 where
   pub place : HasPlace old notion
   pub list : new ≡ old ++ notion ∷ []

@@ -1,4 +1,4 @@
--- One line of a notion text: a name, and the six parts of a bound; and what it gives behind others.
+-- One line of a notion text: a name and the six parts of a bound, and what it adds to the notions of earlier lines.
 use Rattle.std.specs.Prelude.{ℕ, ◌≡◌, ◌<◌, ◌==◌, ◌&&◌, ◌||◌, nat_le, nat_lt, Bool, true, false, List, [], ◌∷◌, ◌++◌, length, codes, Option, None, Some}
 use Rattle.std.specs.Char.{is_ascii_digit, is_ascii_lowercase}
 use Rattle.std.specs.List.{list_all}
@@ -7,7 +7,8 @@ use Rattle.spectro_io.specs.Numbers.{is_number, number_value}
 use Rattle.spectro_spec.specs.Notion.{Notion}
 use Rattle.spectro_notions.specs.Bounds.{bound_of}
 use Rattle.spectro_notions.specs.Tables.{has_name}
-use Rattle.spectro_notions.specs.declared.TheConstants.{MAX_NAME_BYTES, MAX_NOTIONS}
+use Rattle.spectro_notions.specs.declared.notions.TheConstants.{MAX_NOTIONS}
+use Rattle.spectro_notions.specs.declared.words.TheConstants.{MAX_NAME_BYTES}
 
 -- a lower-case letter, a digit or a hyphen
 abbrev pub is_name_byte : ℕ → Bool
@@ -22,7 +23,7 @@ abbrev pub IsPart : List ℕ → Option ℕ → Type 0
 IsPart word None = word ≡ codes "*"
 IsPart word (Some most) = (is_number word ≡ true) × (most ≡ number_value word)
 
--- blanks, if any, then the word, and behind it nothing, or a blank and what follows
+-- blanks, if any, then the word, and after it nothing, or a blank and what follows
 pub record BeginsWith (text word rest : List ℕ) : Type 0 where
   pub front : List ℕ
   pub whole : text ≡ front ++ word ++ rest
@@ -65,7 +66,7 @@ pub record HasPlace (table : List Notion) (notion : Notion) : Type 0 where
   pub new : has_name table notion.name ≡ false
   pub room : length table < MAX_NOTIONS
 
--- what the lines so far have given, and the line after them, are this together
+-- the notions so far, and then that of the line, are these together
 pub record Gives (table : List Notion) (line : List ℕ) (next : List Notion) : Type 0 where
   pub notion : Notion
   pub is_notion : IsNotionLine line notion

@@ -17,13 +17,13 @@ pub record IsEnd (given table : List Notion) : Type 0 where
   pub some : 0 < length given
   pub same : table ≡ given
 
--- so many lines gave no notion, which is a fault of the line behind them
+-- so many lines gave no notion, which is a fault of the line after them
 pub record IsEmpty (given : List Notion) (lines number : ℕ) (kind : NotionKind) : Type 0 where
   pub none : given ≡ []
-  pub behind : number ≡ lines + 1
+  pub next : number ≡ lines + 1
   pub missing : kind ≡ NoNotion
 
--- a text gives the notions of its lines in their order, and may end behind any but none
+-- a text gives the notions of its lines in their order, and has one or more
 abbrev pub notion_form : Form (List Notion) (List Notion) NotionKind
 notion_form = record {
   start = [];
@@ -44,7 +44,7 @@ IsNotionText text table = lines.IsText notion_form text table
 abbrev pub IsFirstFault : List ℕ → NotionFault → Type 0
 IsFirstFault text fault = lines.IsFirstFault notion_form text fault.line fault.kind
 
--- what an error says of the bytes; want of memory says nothing
+-- what an error says of the bytes; that memory ran out says nothing of them
 abbrev pub IsRefused : List ℕ → NotionError → Type 0
 IsRefused bytes (Text fault) = IsFirstFault bytes fault
 IsRefused bytes OutOfMemory = Unit {0}

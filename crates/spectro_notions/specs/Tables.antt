@@ -4,7 +4,7 @@ use Rattle.std.specs.List.{IsDistinct, list_any}
 use Rattle.std.specs.Option.{option_map}
 use Rattle.std.specs.Str.{bytes_eq}
 use Rattle.spectro_spec.specs.Notion.{Bound, IsBelow, Notion}
-use Rattle.spectro_notions.specs.declared.TheConstants.{MAX_NOTIONS}
+use Rattle.spectro_notions.specs.declared.notions.TheConstants.{MAX_NOTIONS}
 
 -- the names, in the order of the table
 abbrev pub names_of : List Notion → List (List ℕ)

@@ -8,8 +8,8 @@ use crate::Bound;
 /// How many notions the spectrum has.
 pub const NOTION_COUNT: u32 = 13;
 
-// The name and the parts of the bound of each notion, after van Glabbeek's linear-time branching-time spectrum. The bounds
-// are this project's own.
+// The name and the parts of the bound of each notion. The names are after van Glabbeek's linear-time branching-time
+// spectrum; that the notions of these names have these bounds there is not claimed.
 static NOTIONS: [(&str, [Option<u32>; 6]); 13] = [
     (
         "enabledness",

@@ -53,7 +53,7 @@ impl Draft {
         has_name(&self.entries, name)
     }
 
-    /// Puts the notion behind the others.
+    /// Puts the notion after the others.
     pub(crate) fn push(&mut self, entry: Entry) -> Result<(), AllocError>
         requires new { has_name self.old (notion_in entry).name ≡ false }
         requires room { length self.old < MAX_NOTIONS }

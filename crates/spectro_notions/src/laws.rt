@@ -5,6 +5,7 @@ ghost use Rattle.spectro_notions.specs.Laws.{
   FaultsOfFrontsStay,
   LongFrontsAreNoTexts,
   NotionsBelowHoldMore,
+  TextsAreOfTables,
   TextsOfTablesHaveNoFault,
 };
 
@@ -21,6 +22,11 @@ pub fn a_text_has_at_most_one_table()
 /// A text has at most one first fault.
 pub fn a_text_has_at_most_one_first_fault()
     ensures { EachTextHasAtMostOneFirstFault }
+{}
+
+/// What a text is of has one notion or more, with distinct names, and not too many.
+pub fn texts_are_of_tables()
+    ensures { TextsAreOfTables }
 {}
 
 /// The text of a table has no fault.

@@ -9,6 +9,9 @@ use crate::{Bound, NOTION_COUNT, bound, name};
 use std::alloc::Global;
 use std::marker::Model;
 
+/// How many notions a table may have.
+pub const MAX_NOTIONS: usize = 64;
+
 /// A table of notions, which are numbered from 0.
 #[derive(Drop)]
 pub struct Notions {

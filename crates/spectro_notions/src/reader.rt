@@ -73,7 +73,7 @@ impl Grammar for Draft {
     }
 }
 
-// Puts the notion behind the others. Answers why there is no place for it, if so.
+// Puts the notion after the others. Answers why there is no place for it, if so.
 fn place(draft: &mut Draft, entry: Entry) -> Result<Option<NotionKind>, AllocError>
     ensures { IfOk result (λ fault. MatchOption fault (IsPlaced draft.old (notion_in entry) draft.new) (IsPlaceFault draft.old (notion_in entry))) }
 {

@@ -3,8 +3,11 @@ ghost use Rattle.std.specs.List.{list_all};
 ghost use Rattle.spectro_notions.specs.LineReading.{AreRead, LacksPart, part_in};
 ghost use Rattle.spectro_notions.specs.NotionLines.{is_name, is_name_byte, is_small};
 
-use crate::{Bound, MAX_NAME_BYTES};
+use crate::Bound;
 use spectro_io::{number, token_at};
+
+/// How many bytes the name of a notion may have.
+pub const MAX_NAME_BYTES: usize = 64;
 
 fn is_name_byte(byte: u8) -> bool
     ensures { result ≡ is_name_byte byte }
@@ -47,7 +50,7 @@ fn part_of(word: &[u8]) -> Option<Option<u64>>
     Some(Some(number(word)?))
 }
 
-/// The parts of a bound that the first six words say, and what stands behind them.
+/// The parts of a bound that the first six words say, and what follows them.
 pub(crate) fn parts_at(text: &[u8]) -> Option<([Option<u64>; 6], &[u8])>
     ensures { MatchOption result (LacksPart text.now) (λ found. AreRead text.now 6 found.0 found.1.now) }
 {

@@ -3,8 +3,10 @@ use spectro_notions::{NotionError, NotionFault, NotionKind, read_notions};
 use std::alloc::{AllocError, Global};
 use std::test::Fail;
 
-const TWO: &[u8] =
-    b"two-step-traces 2 1 0 0 0 0\n\t \r\n bisimulation\t* * * * * 004294967295 \r\n";
+const TWO: &[u8] = b"two-step-traces 2 1 0 0 0 0\nbisimulation * * * * * *";
+
+// One notion, with blanks wherever they may stand.
+const SPACED: &[u8] = b"\t \r\n x-9\t004294967295 *  0 00 0\t 0 \r\n\n";
 
 // Texts without a table, with the line and the kind of the first fault.
 const FAULTY: [(&[u8], u64, NotionKind); 15] = [
@@ -68,13 +70,25 @@ fn reads_a_notion_for_each_line(rt: HostRuntime) -> Result<(), Fail> {
                 "two-step-traces",
                 [Some(2), Some(1), Some(0), Some(0), Some(0), Some(0)],
             ),
-            (
-                1,
-                "bisimulation",
-                [None, None, None, None, None, Some(4_294_967_295)],
-            ),
+            (1, "bisimulation", [None, None, None, None, None, None]),
         ],
     );
+    assert!(rt; notions.below(0, 1));
+    Ok(())
+}
+
+#[test]
+fn reads_over_blanks(rt: HostRuntime) -> Result<(), Fail> {
+    let notions = read_notions(rt.alloc(), SPACED)?;
+    let parts = [
+        Some(4_294_967_295),
+        None,
+        Some(0),
+        Some(0),
+        Some(0),
+        Some(0),
+    ];
+    assert_notions(&rt, &notions, &[(0, "x-9", parts)]);
     Ok(())
 }
 
