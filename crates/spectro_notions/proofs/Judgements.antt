@@ -106,7 +106,8 @@ module _ (given : List Notion) (lines : ℕ) where
   pub end-cases : ((table : List Notion) × IsEnd given table) ⊎ ((fault : ℕ × NotionKind) × IsEmpty given lines fault.0 fault.1)
   end-cases = by given refl
     where
-      by : (notions : List Notion) → given ≡ notions → ((table : List Notion) × IsEnd given table) ⊎ ((fault : ℕ × NotionKind) × IsEmpty given lines fault.0 fault.1)
+      by : (notions : List Notion) → given ≡ notions
+          → ((table : List Notion) × IsEnd given table) ⊎ ((fault : ℕ × NotionKind) × IsEmpty given lines fault.0 fault.1)
       by [] none = inr ((lines + 1, NoNotion), record { none = none; next = refl; missing = refl })
       by (notion ∷ notions) is = inl (given, record { some = omega (arith, ap length is); same = refl })
 

@@ -59,7 +59,7 @@ static NOTIONS: [(&str, [Option<u32>; 6]); 13] = [
     ("bisimulation", [None, None, None, None, None, None]),
 ];
 
-/// The name of the notion with this number.
+/// The name of the spectrum's notion with this number.
 pub fn name(k: u32) -> &'static str
     requires { k < NOTION_COUNT }
     ensures { name_at notions k ≡ Some result.now }
@@ -67,7 +67,7 @@ pub fn name(k: u32) -> &'static str
     NOTIONS[k as usize].0
 }
 
-/// The bound of the notion with this number.
+/// The bound of the spectrum's notion with this number.
 pub fn bound(k: u32) -> Bound
     requires { k < NOTION_COUNT }
     ensures { bound_at notions k ≡ Some (bound_of result.parts) }
@@ -77,7 +77,7 @@ pub fn bound(k: u32) -> Bound
     }
 }
 
-/// The number of the notion with this name.
+/// The number of the spectrum's notion with this name. `None` exactly where no notion of it has the name.
 pub fn by_name(text: &str) -> Option<u32>
     ensures { MatchOption result (¬ Contains (names_of notions) text.now) (λ k. name_at notions k ≡ Some text.now) }
 {

@@ -21,6 +21,7 @@ fn has_name_bytes(word: &[u8]) -> bool
     word.iter().all(|byte| is_name_byte(*byte))
 }
 
+// Whether the word is a name of a notion.
 fn is_name(word: &[u8]) -> bool
     ensures { result ≡ is_name word.now }
 {
