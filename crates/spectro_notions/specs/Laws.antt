@@ -26,9 +26,9 @@ EachTextHasAtMostOneTable = (text : List ℕ) (one other : List Notion) → IsNo
 abbrev pub EachTextHasAtMostOneFirstFault : Type 0
 EachTextHasAtMostOneFirstFault = (text : List ℕ) (one other : NotionFault) → IsFirstFault text one → IsFirstFault text other → one ≡ other
 
--- what a text is of is a table: one notion or more, with distinct names, and not too many
-abbrev pub TextsAreOfTables : Type 0
-TextsAreOfTables = (text : List ℕ) (table : List Notion) → IsNotionText text table → IsTable table
+-- the table of a text has one notion or more, with distinct names, and not too many
+abbrev pub TextsKeepTheLimits : Type 0
+TextsKeepTheLimits = (text : List ℕ) (table : List Notion) → IsNotionText text table → IsTable table
 
 -- the text of a table has no fault
 abbrev pub TextsOfTablesHaveNoFault : Type 0

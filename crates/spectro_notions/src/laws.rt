@@ -5,7 +5,7 @@ ghost use Rattle.spectro_notions.specs.Laws.{
   FaultsOfFrontsStay,
   LongFrontsAreNoTexts,
   NotionsBelowHoldMore,
-  TextsAreOfTables,
+  TextsKeepTheLimits,
   TextsOfTablesHaveNoFault,
 };
 
@@ -24,9 +24,9 @@ pub fn a_text_has_at_most_one_first_fault()
     ensures { EachTextHasAtMostOneFirstFault }
 {}
 
-/// What a text is of has one notion or more, with distinct names, and not too many.
-pub fn texts_are_of_tables()
-    ensures { TextsAreOfTables }
+/// The table of a text has 1 to 64 notions, with distinct names.
+pub fn texts_keep_the_limits()
+    ensures { TextsKeepTheLimits }
 {}
 
 /// The text of a table has no fault.

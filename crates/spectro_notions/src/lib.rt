@@ -18,7 +18,7 @@ pub use error::{NotionError, NotionFault, NotionKind};
 pub use laws::{
     a_text_has_a_table_or_a_fault, a_text_has_at_most_one_first_fault,
     a_text_has_at_most_one_table, faults_of_fronts_stay, long_fronts_are_no_texts,
-    notions_below_hold_more, texts_are_of_tables, texts_of_tables_have_no_fault,
+    notions_below_hold_more, texts_keep_the_limits, texts_of_tables_have_no_fault,
 };
 pub use notions::{MAX_NOTIONS, Notions};
 pub use reader::read_notions;

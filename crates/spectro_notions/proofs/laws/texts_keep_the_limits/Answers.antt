@@ -1,5 +1,5 @@
 use Rattle.spectro_notions.proofs.Texts.{IsTable-text}
-use Rattle.spectro_notions.proofs.laws.texts_are_of_tables.Goals as goal
+use Rattle.spectro_notions.proofs.laws.texts_keep_the_limits.Goals as goal
 
 pub returns : goal.returns
 returns c = IsTable-text
