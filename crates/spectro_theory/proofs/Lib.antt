@@ -40,3 +40,5 @@ pub mod ReachedPairs
 pub mod Universe
 pub mod Reaching
 pub mod ReachingExamples
+pub mod MappedPlaces
+pub mod LastGenerations

@@ -108,7 +108,7 @@ is_same_list-Decides (e ∷ es) (f ∷ fs) = Decides-like (is_same_list (e ∷ e
     back is = (cc, cc)
 
 module _ (weighing : Weighing) (system : System) (k : ℕ) (x : Pair) where
-  has_changed-Decides : (y : Pair)
+  pub has_changed-Decides : (y : Pair)
       → Decides (has_changed weighing system k y) (generation weighing system (suc k) y.state y.set ≢ generation weighing system k y.state y.set)
   has_changed-Decides y = Decides-not (is_same_list (generation weighing system (suc k) y.state y.set) (generation weighing system k y.state y.set))
       (is_same_list-Decides (generation weighing system (suc k) y.state y.set) (generation weighing system k y.state y.set))

@@ -1,6 +1,7 @@
 -- The minimal elements of a list rise, are apart, are members of it, and cover each member.
 -- So they cover just what the list covers, and lists that cover alike have the same ones.
 use Rattle.std.proofs.Common.{ℕ, ◌≡◌, ◌≢◌, ◌≤◌, ◌<◌, ◌⊎◌, inl, inr, List, [], ◌∷◌, ◌++◌, length, refl, sym, subst, Contains, arith, Bool, true, false, cond, leb, ltb, eqb}
+use Rattle.std.specs.Prelude.{◌↔◌}
 use Rattle.std.specs.Bool.{Decides}
 use Rattle.std.proofs.lemmas.Bool.{leb-true, le-leb, true≢false, cases_order}
 use Rattle.std.proofs.lemmas.Bool.Decides.{Decides-and, Decides-or, Decides-like, Decides-eqb, Decides-ltb}
@@ -170,7 +171,7 @@ placed_price-rises e (g ∷ gs) rises new = by_test (λ b. Rises (placed_by b e 
     ))
 
 -- what inserting leaves
-inserted-member : (e : Price) (es : List Price) (f : Price) → Contains (inserted e es) f → (e ≡ f) ⊎ Contains es f
+pub inserted-member : (e : Price) (es : List Price) (f : Price) → Contains (inserted e es) f → (e ≡ f) ⊎ Contains es f
 inserted-member e es f member = by_test (λ b. Contains (inserted_by b e es) f → (e ≡ f) ⊎ Contains es f) (some_covers es e) (some_covers-Decides es e)
     (λ _ k. inr k)
     (λ _ k. elim (placed_price-member e (not_above e es) f k) [ inl same ↦ inl same | inr kept ↦ inr (not_above-member e es f kept).0 ]) member
@@ -184,6 +185,22 @@ inserted-covers e es f h = by_test (λ b. Covers (inserted_by b e es) f) (some_c
           (λ below. (e, member-placed_price e (not_above e es) e (inl refl), below))
           (λ apart. (f, member-placed_price e (not_above e es) f (inr (member-not_above e es f member apart)), IsAtMost-refl f))
     ])
+
+-- what it covers then: what was covered, and what e is at most
+pub Covers-inserted : (e : Price) (es : List Price) (f : Price) → Covers (inserted e es) f ↔ Covers es f ⊎ IsAtMost e f
+Covers-inserted e es f = (
+  (λ (g, member, below). elim (inserted-member e es g member) [
+    | inl same ↦ inr (subst (λ x. IsAtMost x f) (sym same) below)
+    | inr old ↦ inl (g, old, below)
+  ]),
+  (λ h. elim h [
+    | inl (g, member, below) ↦ Covers-above (inserted e es) (inserted-covers e es g (inr member)) below
+    | inr below ↦ Covers-above (inserted e es) (inserted-covers e es e (inl refl)) below
+  ]),
+)
+  where
+    Covers-above : (gs : List Price) {g h : Price} → Covers gs g → IsAtMost g h → Covers gs h
+    Covers-above gs (x, member, low) below = (x, member, IsAtMost-trans low below)
 
 pub inserted-rises : (e : Price) (es : List Price) → Rises es → Rises (inserted e es)
 inserted-rises e es rises = by_test (λ b. Rises (inserted_by b e es)) (some_covers es e) (some_covers-Decides es e)
