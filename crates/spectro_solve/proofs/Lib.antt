@@ -1,0 +1,16 @@
+pub mod Results
+pub mod Adding
+pub mod Listing
+pub mod NamedObservations
+pub mod ObservedPrices
+pub mod SubsetPairs
+pub mod ClauseLists
+pub mod SplitPrices
+pub mod AllSplits
+pub mod Evaluating
+pub mod MaskBits
+pub mod Choosing
+pub mod Marked
+pub mod Changing
+pub mod Generating
+pub mod Settling

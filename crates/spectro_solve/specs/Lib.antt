@@ -1,0 +1,10 @@
+pub mod Added
+pub mod Tables
+pub mod Evaluations
+pub mod Counts
+pub mod Observations
+pub mod Clauses
+pub mod Choices
+pub mod Marks
+pub mod Changes
+pub mod Solving
