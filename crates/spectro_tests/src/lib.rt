@@ -42,6 +42,8 @@ mod samples;
 #[cfg(test)]
 mod sheets;
 #[cfg(test)]
+mod solutions;
+#[cfg(test)]
 mod systems;
 #[cfg(test)]
 mod tokens;
