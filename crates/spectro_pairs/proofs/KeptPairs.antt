@@ -22,13 +22,15 @@ use Rattle.spectro_pairs.proofs.Sets.{set-equal, set-itself, stands-lists}
 use Rattle.spectro_pairs.proofs.Interning.{any-pairs, is_same_key, length-pairs_of, pair_at-set, pairs_of-with_key, pairs_of-with_last, same_key-equal, same_key-itself, stands-pairs}
 
 -- nothing is kept at first
-pub interned-nil : (states limit : ℕ) (known : Known) (sets : List (Vec ℕ Global)) (keys : List Key) → sets ≡ [] → keys ≡ [] → limit ≤ 1000000
-    → known.width ≡ states → ((set state n : ℕ) → Knows known set state n → ⊥) → AreInterned states limit 0 known sets keys
+pub interned-nil : (states limit : ℕ) (known singletons : Known) (sets : List (Vec ℕ Global)) (keys : List Key) → sets ≡ [] → keys ≡ []
+    → limit ≤ 1000000 → known.width ≡ states → ((set state n : ℕ) → Knows known set state n → ⊥) → singletons.width ≡ 1
+    → ((q column n : ℕ) → Knows singletons q column n → ⊥) → AreInterned states limit 0 known singletons sets keys
 unfolding lists_of pairs_of
-interned-nil states limit known sets keys no-sets no-keys bound wide none =
-    subst (λ l. AreInterned states limit 0 known l keys) (sym no-sets) (subst (AreInterned states limit 0 known []) (sym no-keys) empty)
+interned-nil states limit known singletons sets keys no-sets no-keys bound wide none narrow none_alone =
+    subst (λ l. AreInterned states limit 0 known singletons l keys) (sym no-sets)
+    (subst (AreInterned states limit 0 known singletons []) (sym no-keys) empty)
   where
-    empty : AreInterned states limit 0 known [] []
+    empty : AreInterned states limit 0 known singletons [] []
     empty = record {
       once = λ i j x here also. cc;
       within = All-nil (IsSetWithin states);
@@ -41,6 +43,8 @@ interned-nil states limit known sets keys no-sets no-keys bound wide none =
       few = omega arith;
       wide = wide;
       exact = λ set state n knows. absurd (none set state n knows);
+      narrow = narrow;
+      alone = λ q column n knows. absurd (none_alone q column n knows);
     }
 
 -- the number that stands for the positions of a pair is at most theirs, and is theirs where it is at most a million
@@ -61,10 +65,10 @@ positions-low x n r members few many = elim (cases_lt n 20) [ inl below ↦ exac
         (omega arith, λ m. absurd (omega arith))
 
 -- each pair is within the states
-pub pairs-within : (states limit n : ℕ) (known : Known) (sets : List (Vec ℕ Global)) (keys : List Key) → AreInterned states limit n known sets keys
-    → All (IsPairWithin states) (pairs_of (lists_of sets) keys)
+pub pairs-within : (states limit n : ℕ) (known singletons : Known) (sets : List (Vec ℕ Global)) (keys : List Key)
+    → AreInterned states limit n known singletons sets keys → All (IsPairWithin states) (pairs_of (lists_of sets) keys)
 unfolding pair_at
-pairs-within states limit n known sets keys well k d within =
+pairs-within states limit n known singletons sets keys well k d within =
     let lists = lists_of sets in
     let at = stands-some keys k (omega (arith, length-pairs_of lists keys, within)) in
     let here = stands-pairs lists keys k at.0 at.1 in
@@ -75,7 +79,8 @@ pairs-within states limit n known sets keys well k d within =
     } in
     subst (IsPairWithin states) (sym (get_or_from_slice_get (pairs_of lists keys) k (pair_at lists at.0.state at.0.set) d here)) one
 
-module _ {states limit n : ℕ} {known : Known} {sets : List (Vec ℕ Global)} {keys : List Key} (well : AreInterned states limit n known sets keys) where
+module _ {states limit n : ℕ} {known singletons : Known} {sets : List (Vec ℕ Global)} {keys : List Key}
+    (well : AreInterned states limit n known singletons sets keys) where
   pub half-limit : 2 * length keys ≤ limit
   half-limit =
       let sized = well.sized in
@@ -97,7 +102,8 @@ module _ {states limit n : ℕ} {known : Known} {sets : List (Vec ℕ Global)} {
     no-fewer : length (lists_of sets) ≤ length (lists_of more)
     no-fewer = omega (arith, ap length put, length-with_all bytes_eq (set ∷ []) (lists_of sets), ap length (with_all-one bytes_eq (lists_of sets) set))
 
-    pub interned-set : IsSetWithin states set → length (lists_of more) ≤ 4294967295 → AreInterned states limit n known more keys
+    pub interned-set : IsSetWithin states set → length (lists_of more) ≤ 4294967295
+        → AreInterned states limit n known singletons more keys
     interned-set within few = record {
       once = subst StandOnce (sym put) (once-with_last bytes_eq set-equal set-itself (lists_of sets) set well.once);
       within = subst (All (IsSetWithin states)) (sym put) (All-with_last (IsSetWithin states) bytes_eq (lists_of sets) set well.within within);
@@ -111,11 +117,15 @@ module _ {states limit n : ℕ} {known : Known} {sets : List (Vec ℕ Global)} {
       few = few;
       wide = well.wide;
       exact = well.exact;
+      narrow = well.narrow;
+      alone = λ q column m knows. subst (λ l. StandsAt l m (q ∷ [])) (sym put)
+          (stands-with_last bytes_eq set-equal set-itself (lists_of sets) set m (q ∷ []) (well.alone q column m knows));
     }
 
   -- ---- a number that is kept
   pub interned-known : (set state k : ℕ) (more : Known) → more.width ≡ known.width → StandsAt keys k (record { state = state; set = set })
-      → ((p q m : ℕ) → Knows more p q m → Knows known p q m ⊎ ((p ≡ set) × (q ≡ state) × (m ≡ k))) → AreInterned states limit n more sets keys
+      → ((p q m : ℕ) → Knows more p q m → Knows known p q m ⊎ ((p ≡ set) × (q ≡ state) × (m ≡ k)))
+      → AreInterned states limit n more singletons sets keys
   interned-known set state k more same here cases = record {
     once = well.once;
     within = well.within;
@@ -131,6 +141,32 @@ module _ {states limit n : ℕ} {known : Known} {sets : List (Vec ℕ Global)} {
       | inl old ↦ well.exact p q m old
       | inr (one, other, last) ↦ subst (λ j. StandsAt keys j (record { state = q; set = p })) (sym last)
           (subst (StandsAt keys k) (λ i. record { state = sym other i; set = sym one i }) here)
+    ];
+    narrow = well.narrow;
+    alone = well.alone;
+  }
+
+  -- the number of the set of one state
+  pub interned-singleton : (q k : ℕ) (more : Known) → more.width ≡ singletons.width → StandsAt (lists_of sets) k (q ∷ [])
+      → ((p column m : ℕ) → Knows more p column m → Knows singletons p column m ⊎ ((p ≡ q) × (column ≡ 0) × (m ≡ k)))
+      → AreInterned states limit n known more sets keys
+  interned-singleton q k more same here cases = record {
+    once = well.once;
+    within = well.within;
+    in_range = well.in_range;
+    numbered = well.numbered;
+    apart = well.apart;
+    sized = well.sized;
+    small = well.small;
+    bound = well.bound;
+    few = well.few;
+    wide = well.wide;
+    exact = well.exact;
+    narrow = same ∙ well.narrow;
+    alone = λ p column m knows. elim (cases p column m knows) [
+      | inl old ↦ well.alone p column m old
+      | inr (one, first, last) ↦ subst (λ j. StandsAt (lists_of sets) j (p ∷ [])) (sym last)
+          (subst (λ s. StandsAt (lists_of sets) k (s ∷ [])) (sym one) here)
     ];
   }
 
@@ -160,7 +196,7 @@ module _ {states limit n : ℕ} {known : Known} {sets : List (Vec ℕ Global)} {
 
     pub interned-key : (m : ℕ) (more : List Key) → more ≡ with_last is_same_key keys key → key.state < states
         → m ≡ size (with_last is_same_pair (pairs_of (lists_of sets) keys) (pair_at (lists_of sets) key.state key.set)) → m ≤ limit
-        → AreInterned states limit m known sets more
+        → AreInterned states limit m known singletons sets more
     interned-key m more put in_range sized small = record {
       once = well.once;
       within = well.within;
@@ -176,6 +212,8 @@ module _ {states limit n : ℕ} {known : Known} {sets : List (Vec ℕ Global)} {
       wide = well.wide;
       exact = λ p q m knows. subst (λ l. StandsAt l m (record { state = q; set = p })) (sym put)
           (stands-with_last is_same_key same_key-equal same_key-itself keys key m (record { state = q; set = p }) (well.exact p q m knows));
+      narrow = well.narrow;
+      alone = well.alone;
     }
 
     -- the positions of the pair, by the members of its set

@@ -1,5 +1,5 @@
 -- Sets and pairs by number, as the code keeps them.
-use Rattle.std.specs.Prelude.{ℕ, ◌≡◌, ◌<◌, ◌≤◌, List, [], map, length, slice_index_or, All, Vec}
+use Rattle.std.specs.Prelude.{ℕ, ◌≡◌, ◌<◌, ◌≤◌, List, [], ◌∷◌, map, length, slice_index_or, All, Vec}
 use Rattle.std.specs.declared.alloc.Global.{Global}
 use Rattle.spectro_game.specs.Pairs.{Pair, size}
 use Rattle.spectro_game.specs.Reached.{StandsAt}
@@ -31,8 +31,9 @@ abbrev pub interned : ℕ → ℕ → List (Vec ℕ Global) → List Key → Int
 interned states limit sets keys = record { states = states; limit = limit; sets = lists_of sets; pairs = pairs_of (lists_of sets) keys }
 
 -- the sets differ, are within the states and have numbers below 2^32 - 1, each key has a state and the number of a set,
--- the size is that of the pairs and at most the limit, and what is known of a pair is its number
-pub record AreInterned (states limit size_of_pairs : ℕ) (known : Known) (sets : List (Vec ℕ Global)) (keys : List Key) : Type 0 where
+-- the size is that of the pairs and at most the limit, what is known of a pair is its number, and what is known of a state
+-- is the number of the set of it alone
+pub record AreInterned (states limit size_of_pairs : ℕ) (known singletons : Known) (sets : List (Vec ℕ Global)) (keys : List Key) : Type 0 where
   pub once : StandOnce (lists_of sets)
   pub within : All (IsSetWithin states) (lists_of sets)
   pub in_range : All (λ (key : Key). key.state < states) keys
@@ -44,6 +45,8 @@ pub record AreInterned (states limit size_of_pairs : ℕ) (known : Known) (sets 
   pub few : length (lists_of sets) ≤ 4294967295
   pub wide : known.width ≡ states
   pub exact : (set state n : ℕ) → Knows known set state n → StandsAt keys n (record { state = state; set = set })
+  pub narrow : singletons.width ≡ 1
+  pub alone : (q column n : ℕ) → Knows singletons q column n → StandsAt (lists_of sets) n (q ∷ [])
 
 -- the pair of the number is such
 abbrev pub IsPairAt : List Pair → ℕ → (Pair → Type 0) → Type 0

@@ -1,4 +1,4 @@
-ghost use Rattle.std.specs.Prelude.{◌≡◌, ◌<◌, ◌≤◌, ◌+◌, ◌*◌, ◌^◌, ◌==◌, [], if◌then◌else◌, length, position, slice_get, All, Some, IfOk, IfErr, OnOk, OnErr};
+ghost use Rattle.std.specs.Prelude.{◌≡◌, ◌<◌, ◌≤◌, ◌+◌, ◌*◌, ◌^◌, ◌==◌, [], ◌∷◌, if◌then◌else◌, length, position, slice_get, All, Some, IfOk, IfErr, OnOk, OnErr};
 ghost use Rattle.std.specs.Str.{bytes_eq};
 ghost use Rattle.spectro_game.specs.Pairs.{size};
 ghost use Rattle.spectro_game.specs.Reached.{StandsAt};
@@ -30,7 +30,7 @@ const MAX_SETS: usize = 4_294_967_295;
 /// pairs has at most `limit` positions.
 ///
 /// Most look-ups are of pairs that are there, and each costs two reads in tables that fit no cache. So `known` keeps their
-/// numbers by set and state.
+/// numbers by set and state. And most sets have one member, so `singletons` keeps the numbers of these by their state.
 #[derive(Drop)]
 pub(crate) struct Pairs {
     states: u32,
@@ -39,6 +39,7 @@ pub(crate) struct Pairs {
     sets: IndexSet<Vec<u32>>,
     keys: IndexSet<Key>,
     known: Known,
+    singletons: Known,
 }
 
 impl Model for Pairs {
@@ -48,7 +49,7 @@ impl Model for Pairs {
 
     ghost view = { λ p. interned p.states p.limit p.sets.keys p.keys.keys };
 
-    ghost invariant = { λ p. AreInterned p.states p.limit p.size p.known p.sets.keys p.keys.keys };
+    ghost invariant = { λ p. AreInterned p.states p.limit p.size p.known p.singletons p.sets.keys p.keys.keys };
 }
 
 impl Pairs {
@@ -58,6 +59,7 @@ impl Pairs {
         ensures { IfOk result (λ pairs. pairs ≡ record { states = states; limit = limit; sets = []; pairs = [] }) }
     {
         let known = Known::new(alloc, states, limit as usize)?;
+        let singletons = Known::new(alloc, 1, states as usize)?;
         Ok(Pairs {
             states,
             limit,
@@ -65,6 +67,7 @@ impl Pairs {
             sets: IndexSet::new(alloc),
             keys: IndexSet::new(alloc),
             known,
+            singletons,
         })
     }
 
@@ -126,6 +129,37 @@ impl Pairs {
         ensures bound { IfOk result (λ no. no < 4294967295) }
         ensures err { OnErr result (self.new ≡ self.old) }
     {
+        match set {
+            [q] => self.number_singleton(*q),
+            _ => self.number_members(set),
+        }
+    }
+
+    // The number of the set of the state alone, which goes last if it is new.
+    fn number_singleton(&mut self, q: u32) -> Result<u32, AllocError>
+        requires { q < self.old.states }
+        ensures ok { OnOk result (self.new ≡ record self.old { sets = with_last bytes_eq self.old.sets (q ∷ []) }) }
+        ensures number { IfOk result (λ no. StandsAt self.new.sets no (q ∷ [])) }
+        ensures bound { IfOk result (λ no. no < 4294967295) }
+        ensures err { OnErr result (self.new ≡ self.old) }
+    {
+        if let Some(no) = self.singletons.get(q, 0) {
+            return Ok(no);
+        }
+        let no = self.number_members(&[q])?;
+        self.singletons.put(q, 0, no);
+        Ok(no)
+    }
+
+    // The number of the set by its members, which goes last if it is new.
+    #[inline(never)]
+    fn number_members(&mut self, set: &[u32]) -> Result<u32, AllocError>
+        requires { IsSetWithin self.old.states set.now }
+        ensures ok { OnOk result (self.new ≡ record self.old { sets = with_last bytes_eq self.old.sets set.now }) }
+        ensures number { IfOk result (λ no. StandsAt self.new.sets no set.now) }
+        ensures bound { IfOk result (λ no. no < 4294967295) }
+        ensures err { OnErr result (self.new ≡ self.old) }
+    {
         if let Some(no) = self.sets.get_index_of(set) {
             return Ok(no as u32);
         }
@@ -138,6 +172,7 @@ impl Pairs {
     }
 
     /// The number of the pair of the state and the set of the number. The pair goes last if it is new.
+    #[inline(always)]
     pub(crate) fn reach(&mut self, state: u32, set: u32) -> Result<u32, ExploreError>
         requires state { state < self.old.states }
         requires set { set < length self.old.sets }
@@ -155,6 +190,7 @@ impl Pairs {
     }
 
     // The number of the pair by its key, which goes last if it is new.
+    #[inline(never)]
     fn number(&mut self, state: u32, set: u32) -> Result<u32, ExploreError>
         requires state { state < self.old.states }
         requires set { set < length self.old.sets }

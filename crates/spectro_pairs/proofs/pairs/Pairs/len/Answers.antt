@@ -22,4 +22,4 @@ pub returns-clause-within : goal.returns-clause-within
 returns-clause-within c =
     let inside = c.self.inside in
     subst (λ (v : Interned). All (IsPairWithin v.states) v.pairs) c.self.view_is
-    (pairs-within inside.states inside.limit inside.size inside.known inside.sets.keys inside.keys.keys c.self.invariant)
+    (pairs-within inside.states inside.limit inside.size inside.known inside.singletons inside.sets.keys inside.keys.keys c.self.invariant)

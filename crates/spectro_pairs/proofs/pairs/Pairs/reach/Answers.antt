@@ -45,11 +45,11 @@ returns-in-Some-clause-number c =
     (here (goal.at.returns-in-Some-clause-number c).In-Some))
 
 -- the key stands at the number that was found
-found : (states limit n : ℕ) (known : Known) (sets : List (Vec ℕ Global)) (keys : List Key) → AreInterned states limit n known sets keys
+found : (states limit n : ℕ) (known singletons : Known) (sets : List (Vec ℕ Global)) (keys : List Key) → AreInterned states limit n known singletons sets keys
     → (before now : Interned) → interned states limit sets keys ≡ now → (state set k : ℕ)
     → now ≡ record before { pairs = with_last is_same_pair before.pairs (pair_at before.sets state set) }
     → set < length before.sets → StandsAt now.pairs k (pair_at before.sets state set) → StandsAt keys k (key_of state set)
-found states limit n known sets keys well before now view state set k put below here =
+found states limit n known singletons sets keys well before now view state set k put below here =
     let same : now.sets ≡ before.sets = ap (λ (v : Interned). v.sets) put in
     let stands = subst (λ (l : List (List ℕ)). StandsAt now.pairs k (pair_at l state set)) (sym same) here in
     let kept = subst (λ (v : Interned). StandsAt v.pairs k (pair_at v.sets state set)) (sym view) stands in
@@ -70,7 +70,7 @@ put-requires-clause-column c =
 pub put-requires-clause-bound : goal.put-requires-clause-bound
 put-requires-clause-bound c =
     let inside = c.self-2.inside in
-    let here = found inside.states inside.limit inside.size inside.known inside.sets.keys inside.keys.keys c.self-2.invariant c.args.self.now
+    let here = found inside.states inside.limit inside.size inside.known inside.singletons inside.sets.keys inside.keys.keys c.self-2.invariant c.args.self.now
     c.number.new.self c.self-2.view_is
     c.args.state c.args.set c.in_ok-k.k c.in_ok-k.ensures.ok c.requires.set c.in_ok-k.ensures.number in
     let bound = c.self-2.invariant.bound in
@@ -79,7 +79,7 @@ put-requires-clause-bound c =
 pub invariant_of-self : goal.invariant_of-self
 invariant_of-self c =
     let inside = c.self-2.inside in
-    let here = found inside.states inside.limit inside.size inside.known inside.sets.keys inside.keys.keys c.self-2.invariant c.args.self.now
+    let here = found inside.states inside.limit inside.size inside.known inside.singletons inside.sets.keys inside.keys.keys c.self-2.invariant c.args.self.now
     c.number.new.self c.self-2.view_is
     c.args.state c.args.set c.in_ok-k.k c.in_ok-k.ensures.ok c.requires.set c.in_ok-k.ensures.number in
     interned-known c.self-2.invariant c.args.set c.args.state c.in_ok-k.k c.put.new.self c.put.ensures.width here c.put.ensures.knows

@@ -9,7 +9,7 @@ use Rattle.spectro_pairs.specs.Explored.{IsSetWithin}
 use Rattle.spectro_pairs.specs.Interned.{Interned, interned, lists_of, pairs_of}
 use Rattle.spectro_pairs.proofs.Sets.{any-lists, found-lists, length-lists_of, lists_of-insert_key, set-equal, set-itself, stands-same}
 use Rattle.spectro_pairs.proofs.KeptPairs.{interned-set, same-pairs}
-use Rattle.spectro_pairs.proofs.pairs.Pairs.number_set.Goals as goal
+use Rattle.spectro_pairs.proofs.pairs.Pairs.number_members.Goals as goal
 
 -- the number of a set that is there
 below : (c : goal.In-Some) → c.in-Some.no < 4294967295
