@@ -77,10 +77,42 @@ impl Exploration {
         ensures limit { IfErr result (λ e. IsPastFollowers e lts.now self.old k) }
     {
         let state = self.pairs.state(k);
-        let set: SmallVec<u32, 16> = SmallVec::from_slice(alloc, self.pairs.set(k))?;
-        self.add_observations(lts, state, set.as_slice())?;
-        self.add_subsets(alloc, state, set.as_slice())?;
-        self.add_swaps(state, set.as_slice())?;
+        match self.pairs.set(k) {
+            [] => self.add_followers(alloc, lts, k, state, &[]),
+            [q] => {
+                let q = *q;
+                self.add_followers(alloc, lts, k, state, &[q])
+            }
+            set => {
+                let set: SmallVec<u32, 16> = SmallVec::from_slice(alloc, set)?;
+                self.add_followers(alloc, lts, k, state, set.as_slice())
+            }
+        }
+    }
+
+    // Reaches the followers of pair `k`, which is that of the state and the set.
+    fn add_followers(
+        &mut self,
+        alloc: Global,
+        lts: &Lts,
+        k: u32,
+        state: u32,
+        set: &[u32],
+    ) -> Result<(), ExploreError>
+        requires states { self.old.pairs.states ≡ lts.now.states }
+        requires here { StandsAt self.old.pairs.pairs k (pair_of state set.now) }
+        requires state { state < lts.now.states }
+        requires set { IsSetWithin lts.now.states set.now }
+        requires few { length set.now ≤ 19 }
+        requires closed { (self.old.followers.last ≡ []) × (self.old.labels.last ≡ []) }
+        requires posts { ArePosts lts.now self.old }
+        ensures ok { OnOk result (HasExpanded lts.now self.old self.new k) }
+        ensures posts { OnOk result (ArePosts lts.now self.new) }
+        ensures limit { IfErr result (λ e. IsPastFollowers e lts.now self.old k) }
+    {
+        self.add_observations(lts, state, set)?;
+        self.add_subsets(alloc, state, set)?;
+        self.add_swaps(state, set)?;
         self.followers.close()?;
         self.labels.close()?;
         Ok(())

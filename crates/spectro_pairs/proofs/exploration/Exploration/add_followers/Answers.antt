@@ -1,46 +1,33 @@
 -- The followers are what is observed, then the subsets, then the swaps, in a row more.
-use Rattle.std.proofs.Common.{[], ◌++◌, sym, ◌∙◌, subst, append-nil, refl}
+use Rattle.std.proofs.Common.{[], ◌++◌, sym, append-nil, refl}
 use Rattle.std.proofs.lemmas.Result.{err_from_is_err_and}
 use Rattle.spectro_game.specs.Pairs.{followers, observed, subsets, swaps}
-use Rattle.spectro_game.specs.Reached.{StandsAt}
-use Rattle.spectro_pairs.specs.Growth.{HasObserved, HasReached, IsPastWith, pair_of}
+use Rattle.spectro_pairs.specs.Growth.{HasObserved, HasReached, pair_of}
 use Rattle.spectro_pairs.proofs.Growths.{closed-opened, has-next, has-then, past-more, past-then}
-use Rattle.spectro_pairs.proofs.Interning.{pair-here}
 use Rattle.spectro_pairs.proofs.Posts.{posts-kept}
-use Rattle.spectro_pairs.proofs.exploration.Exploration.expand.Goals as goal
-use Rattle.spectro_pairs.proofs.exploration.Exploration.expand.Goals.{In_ok-set, In_ok-add_observations, In_ok-add_subsets}
+use Rattle.spectro_pairs.proofs.exploration.Exploration.add_followers.Goals as goal
+use Rattle.spectro_pairs.proofs.exploration.Exploration.add_followers.Goals.{In_ok-add_observations, In_ok-add_subsets}
 
--- the pair of the number, and what is reached from it in turn
-here : (c : In_ok-set) → StandsAt c.args.self.now.pairs.pairs c.args.k (pair_of c.state-state.result c.set.result.now)
-here c = pair-here c.args.self.now.pairs.pairs c.args.k c.state-state.result c.set.result.now c.state-state.ensures.state c.set.ensures.set
-
+-- what is reached from the pair in turn
 reached_observed : (c : In_ok-add_observations)
-    → HasObserved c.args.lts.now c.args.self.now c.add_observations.new.self (pair_of c.state-state.result c.set.result.now)
-reached_observed c =
-    subst (λ s. HasObserved c.args.lts.now c.args.self.now c.add_observations.new.self (pair_of c.state-state.result s)) (c.as_slice.ensures
-    ∙ c.in_ok-set.ensures.ok)
-    c.in_ok-add_observations.ensures.ok
+    → HasObserved c.args.lts.now c.args.self.now c.add_observations.new.self (pair_of c.args.state c.args.set.now)
+reached_observed c = c.in_ok-add_observations.ensures.ok
 
 reached_subsets : (c : In_ok-add_subsets)
-    → HasReached c.add_observations.new.self c.add_subsets.new.self (subsets (pair_of c.state-state.result c.set.result.now)) []
-reached_subsets c =
-    subst (λ s. HasReached c.add_observations.new.self c.add_subsets.new.self (subsets (pair_of c.state-state.result s)) []) (c.as_slice-2.ensures
-    ∙ c.in_ok-set.ensures.ok)
-    c.in_ok-add_subsets.ensures.ok
+    → HasReached c.add_observations.new.self c.add_subsets.new.self (subsets (pair_of c.args.state c.args.set.now)) []
+reached_subsets c = c.in_ok-add_subsets.ensures.ok
 
 pub returns-in_err-add_observations-clause-limit : goal.returns-in_err-add_observations-clause-limit
 unfolding followers
 returns-in_err-add_observations-clause-limit c =
-    let p = err_from_is_err_and c.from_residual-in_err-add_observations.result c.from_residual-in_err-add_observations.ensures.1 in
+    let p = err_from_is_err_and c.from_residual.result c.from_residual.ensures.1 in
     let a = c.args.self.now in
     let e = c.in_err-add_observations.field-0.0 in
-    let x = pair_of c.state-state.result c.set.result.now in
-    let same = c.as_slice.ensures ∙ c.in_ok-set.ensures.ok in
-    let past = subst (λ s. IsPastWith e a (observed c.args.lts.now (pair_of c.state-state.result s))) same c.in_err-add_observations.ensures.limit in
+    let x = pair_of c.args.state c.args.set.now in
     rw (p.1, p.2) (
       x,
-      here (goal.at.returns-in_err-add_observations-clause-limit c).In_ok-set,
-      past-more e a (observed c.args.lts.now x) (subsets x ++ swaps x) past,
+      c.requires.here,
+      past-more e a (observed c.args.lts.now x) (subsets x ++ swaps x) c.in_err-add_observations.ensures.limit,
     )
 
 pub returns-in_err-add_subsets-clause-limit : goal.returns-in_err-add_subsets-clause-limit
@@ -50,13 +37,12 @@ returns-in_err-add_subsets-clause-limit c =
     let a = c.args.self.now in
     let b = c.add_observations.new.self in
     let e = c.in_err-add_subsets.field-0.0 in
-    let x = pair_of c.state-state.result c.set.result.now in
-    let same_again = c.as_slice-2.ensures ∙ c.in_ok-set.ensures.ok in
+    let x = pair_of c.args.state c.args.set.now in
     let has = reached_observed (goal.at.returns-in_err-add_subsets-clause-limit c).In_ok-add_observations in
-    let past = subst (λ s. IsPastWith e b (subsets (pair_of c.state-state.result s))) same_again c.in_err-add_subsets.ensures.limit in
+    let past = c.in_err-add_subsets.ensures.limit in
     rw (p.1, p.2) (
       x,
-      here (goal.at.returns-in_err-add_subsets-clause-limit c).In_ok-set,
+      c.requires.here,
       past-then e a b (observed c.args.lts.now x) (subsets x ++ swaps x) has.reached.limit has.reached.pairs (past-more e b (subsets x) (swaps x) past),
     )
 
@@ -68,14 +54,13 @@ returns-in_err-add_swaps-clause-limit c =
     let b = c.add_observations.new.self in
     let d = c.add_subsets.new.self in
     let e = c.in_err-add_swaps.field-0.0 in
-    let x = pair_of c.state-state.result c.set.result.now in
-    let same_last = c.as_slice-3.ensures ∙ c.in_ok-set.ensures.ok in
+    let x = pair_of c.args.state c.args.set.now in
     let has = reached_observed (goal.at.returns-in_err-add_swaps-clause-limit c).In_ok-add_observations in
     let then = reached_subsets (goal.at.returns-in_err-add_swaps-clause-limit c).In_ok-add_subsets in
-    let past = subst (λ s. IsPastWith e d (swaps (pair_of c.state-state.result s))) same_last c.in_err-add_swaps.ensures.limit in
+    let past = c.in_err-add_swaps.ensures.limit in
     rw (p.1, p.2) (
       x,
-      here (goal.at.returns-in_err-add_swaps-clause-limit c).In_ok-set,
+      c.requires.here,
       past-then e a b (observed c.args.lts.now x) (subsets x ++ swaps x) has.reached.limit has.reached.pairs
           (past-then e b d (subsets x) (swaps x) then.limit then.pairs past),
     )
@@ -87,17 +72,16 @@ returns-clause-ok c =
     let b = c.add_observations.new.self in
     let d = c.add_subsets.new.self in
     let f = c.add_swaps.new.self in
-    let x = pair_of c.state-state.result c.set.result.now in
-    let same_last = c.as_slice-3.ensures ∙ c.in_ok-set.ensures.ok in
+    let x = pair_of c.args.state c.args.set.now in
     let has = reached_observed (goal.at.returns-clause-ok c).In_ok-add_observations in
     let then = reached_subsets (goal.at.returns-clause-ok c).In_ok-add_subsets in
-    let last = subst (λ s. HasReached d f (swaps (pair_of c.state-state.result s)) []) same_last c.in_ok-add_swaps.ensures.ok in
+    let last = c.in_ok-add_swaps.ensures.ok in
     let all =
     has-next a b f (observed c.args.lts.now x) (subsets x ++ swaps x) (followers c.args.lts.now x) has.label_nos [] has.label_nos has.reached
     (has-then b d f (subsets x) (swaps x) [] [] then last) refl (sym (append-nil has.label_nos)) in
     record {
       x = x;
-      here = here (goal.at.returns-clause-ok c).In_ok-set;
+      here = c.requires.here;
       states = all.states;
       limit = all.limit;
       pairs = all.pairs;
