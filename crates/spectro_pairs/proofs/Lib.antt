@@ -7,6 +7,8 @@ pub mod ArenaRows
 pub mod ObservedSteps
 pub mod PredecessorRows
 pub mod Turns
+pub mod Submasks
 pub mod Growths
 pub mod Posts
 pub mod Exploring
+pub mod LatticePlaces

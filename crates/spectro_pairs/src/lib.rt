@@ -5,6 +5,7 @@ mod arena;
 mod error;
 mod exploration;
 mod known;
+mod lattices;
 mod pairs;
 mod reaching;
 mod subsets;
