@@ -14,6 +14,7 @@ use Rattle.spectro_pairs.specs.declared.exploration.Exploration.{Exploration}
 use Rattle.spectro_pairs.specs.Explored.{IsExploredFrom, IsPairWithin, NameRows, observed_labels, start_pair, start_pairs}
 use Rattle.spectro_pairs.specs.Growth.{AreExplored, ArePosts, HasExpanded, HasStarted, IsPastFollowers, IsPastWith}
 use Rattle.spectro_pairs.specs.Interned.{Interned}
+use Rattle.spectro_pairs.specs.Lattices.{AreLattices}
 use Rattle.spectro_pairs.specs.Limits.{IsPastLimit}
 use Rattle.spectro_rows.specs.Rows.{RowList}
 use Rattle.spectro_pairs.proofs.Growths.{past-above}
@@ -38,10 +39,12 @@ module _ (system : System) (starts : List (ℕ × ℕ)) where
   -- nothing is explored yet
   pub explored-none : (a b : Exploration) (limit : ℕ) → a.pairs ≡ record { states = system.states; limit = limit; sets = []; pairs = [] }
       → a.followers ≡ record { rows = []; last = [] }
-      → a.labels ≡ record { rows = []; last = [] } → HasStarted a b (map start_pair starts) → ArePosts system b → AreExplored system starts b 0
-  explored-none a b limit none no_followers no_labels has posts = record {
+      → a.labels ≡ record { rows = []; last = [] } → HasStarted a b (map start_pair starts) → ArePosts system b
+      → AreLattices a.pairs.pairs a.lattices → AreExplored system starts b 0
+  explored-none a b limit none no_followers no_labels has posts kept = record {
     states = has.states ∙ ap (λ (p : Interned). p.states) none;
     posts = posts;
+    lattices = has.lattices kept;
     reached =
         subst (λ l. AreReachedPairsTo system (start_pairs starts) l 0)
         (sym (has.pairs ∙ ap (λ (p : Interned). with_all is_same_pair p.pairs (map start_pair starts)) none)) started;
@@ -60,6 +63,7 @@ module _ (system : System) (starts : List (ℕ × ℕ)) where
       record {
         states = has.states ∙ explored.states;
         posts = posts;
+        lattices = has.lattices explored.lattices;
         reached =
             subst (λ l. AreReachedPairsTo system (start_pairs starts) l (k + 1)) (sym has.pairs)
             (reaching-goes_on system (start_pairs starts) a.pairs.pairs k has.x explored.reached has.here);

@@ -1,15 +1,18 @@
 -- One growth of an exploration after another, and what is past the limit.
-use Rattle.std.proofs.Common.{ℕ, ◌≤◌, ◌≡◌, List, [], ◌∷◌, ◌++◌, refl, sym, ap, ◌∙◌, subst, arith, append_assoc, append-nil}
+use Rattle.std.proofs.Common.{ℕ, ◌≤◌, ◌≡◌, List, [], ◌∷◌, ◌++◌, get_or, refl, sym, ap, ◌∙◌, subst, arith, append_assoc, append-nil}
 use Rattle.spectro_game.specs.Pairs.{Pair, size}
 use Rattle.spectro_game.specs.Reached.{StandsAt}
 use Rattle.spectro_theory.specs.Reaching.{with_all, with_last, is_same_pair}
-use Rattle.spectro_theory.proofs.PutLast.{with_all-append, with_all-grows, with_all-one}
+use Rattle.spectro_theory.proofs.PutLast.{stands-any, stands-with_last, with_all-append, with_all-grows, with_all-one, with_last-known}
+use Rattle.spectro_theory.proofs.Reaching.{same_pair-equal, same_pair-itself}
 use Rattle.spectro_theory.proofs.Sizes.{size-front}
 use Rattle.spectro_pairs.specs.declared.error.ExploreError.{ExploreError}
 use Rattle.spectro_pairs.specs.declared.error.ExploreError.TheVariants.{TooLarge, OutOfMemory}
 use Rattle.spectro_pairs.specs.declared.exploration.Exploration.{Exploration}
 use Rattle.spectro_pairs.specs.declared.known.Known.{Known}
 use Rattle.spectro_pairs.specs.Interned.{Interned}
+use Rattle.spectro_pairs.specs.Lattices.{AreLattices, submask}
+use Rattle.spectro_pairs.specs.declared.lattices.Lattices.{Lattices}
 use Rattle.spectro_pairs.specs.Limits.{IsPastLimit}
 use Rattle.spectro_rows.specs.Rows.{RowList}
 use Rattle.spectro_pairs.specs.Growth.{HasReached, HasStarted, IsPastWith, Name}
@@ -20,7 +23,7 @@ use Rattle.spectro_pairs.proofs.NamedRows.{name-append, name-grows}
 abbrev pub opened : RowList ℕ → List ℕ → RowList ℕ
 opened rows numbers = record rows { last = rows.last ++ numbers }
 
-opened-none : (rows : RowList ℕ) → rows ≡ opened rows []
+pub opened-none : (rows : RowList ℕ) → rows ≡ opened rows []
 opened-none rows = ap (λ l. record rows { last = l }) (sym (append-nil rows.last))
 
 opened-then : (a b c : RowList ℕ) (ms ns : List ℕ) → b ≡ opened a ms → c ≡ opened b ns → c ≡ opened a (ms ++ ns)
@@ -34,6 +37,23 @@ closed rows = record { rows = rows.rows ++ rows.last ∷ []; last = [] }
 pub closed-opened : (a b c : RowList ℕ) (ns : List ℕ) → b ≡ opened a ns → a.last ≡ [] → c ≡ closed b → c ≡ record { rows = a.rows ++ ns ∷ []; last = [] }
 closed-opened a b c ns is none closes = closes ∙ ap closed is ∙ ap (λ (l : List ℕ). closed (record a { last = l ++ ns })) none
 
+-- ---- subsets that are kept
+-- they are kept where there are more pairs
+pub lattices-more : (lattices : Lattices) (xs ys : List Pair) (x : Pair) → ys ≡ with_last is_same_pair xs x → AreLattices xs lattices → AreLattices ys lattices
+lattices-more lattices xs ys x grown kept k place has =
+    let old = kept k place has in
+    let grow = λ (i : ℕ) (y : Pair) (here : StandsAt xs i y). subst (λ l. StandsAt l i y) (sym grown)
+    (stands-with_last is_same_pair same_pair-equal same_pair-itself xs x i y here) in
+    record {
+      x = old.x;
+      here = grow k old.x old.here;
+      table = old.table;
+      kept = old.kept;
+      small = old.small;
+      entries = λ i some below. let entry = old.entries i some below in
+          record { within = entry.within; there = grow (get_or old.table.items (submask place.mask i) 0) _ entry.there };
+    }
+
 -- ---- an exploration that reached pairs
 pub has-none : (a : Exploration) → HasReached a a [] []
 unfolding with_all
@@ -45,6 +65,7 @@ has-none a = record {
   followers = opened-none a.followers;
   named = refl;
   labels = opened-none a.labels;
+  lattices = λ kept. kept;
 }
 
 pub has-one : (a : Exploration) (pairs : Interned) (followers : RowList ℕ) (k : ℕ) (x : Pair)
@@ -58,7 +79,19 @@ has-one a pairs followers k x grown here pushed = record {
   followers = pushed;
   named = ap (λ o. o ∷ []) here;
   labels = opened-none a.labels;
+  lattices = lattices-more a.lattices a.pairs.pairs pairs.pairs x (ap (λ (p : Interned). p.pairs) grown);
 }
+
+-- a pair that stands there
+pub has-known : (a : Exploration) (followers : RowList ℕ) (k : ℕ) (x : Pair) → StandsAt a.pairs.pairs k x → followers ≡ opened a.followers (k ∷ [])
+    → HasReached a (record a { followers = followers }) (x ∷ []) []
+has-known a followers k x here pushed =
+    has-one a a.pairs followers k x
+    (λ i. record a.pairs {
+      pairs = sym (with_last-known is_same_pair a.pairs.pairs x
+          (stands-any is_same_pair same_pair-equal same_pair-itself x a.pairs.pairs k here)) i;
+    })
+    here pushed
 
 pub has-then : (a b c : Exploration) (ys zs : List Pair) (ls ms : List ℕ) → HasReached a b ys ls → HasReached b c zs ms → HasReached a c (ys ++ zs) (ls ++ ms)
 has-then a b c ys zs ls ms first then =
@@ -74,6 +107,7 @@ has-then a b c ys zs ls ms first then =
           name-append c.pairs.pairs first.numbers then.numbers ys zs
           (subst (λ l. Name l first.numbers ys) (sym longer) (name-grows b.pairs.pairs grown.0 first.numbers ys first.named)) then.named;
       labels = opened-then a.labels b.labels c.labels ls ms first.labels then.labels;
+      lattices = λ kept. then.lattices (first.lattices kept);
     }
 
 -- what was done, and then what was done now, is what is done
@@ -98,6 +132,7 @@ has-numbered a b pairs sets ys ls numbered has = record {
   followers = has.followers;
   labels = has.labels;
   named = subst (λ l. Name l has.numbers ys) (sym (ap (λ (p : Interned). p.pairs) numbered)) has.named;
+  lattices = λ kept. subst (λ l. AreLattices l b.lattices) (sym (ap (λ (p : Interned). p.pairs) numbered)) (has.lattices kept);
 }
 
 -- another number was put down
@@ -110,6 +145,21 @@ has-kept a b posts ys ls has = record {
   followers = has.followers;
   named = has.named;
   labels = has.labels;
+  lattices = has.lattices;
+}
+
+-- other subsets are kept
+pub has-placed : (a b : Exploration) (lattices : Lattices) (ys : List Pair) (ls : List ℕ)
+    → (AreLattices b.pairs.pairs b.lattices → AreLattices b.pairs.pairs lattices) → HasReached a b ys ls → HasReached a (record b { lattices = lattices }) ys ls
+has-placed a b lattices ys ls more has = record {
+  states = has.states;
+  limit = has.limit;
+  pairs = has.pairs;
+  numbers = has.numbers;
+  followers = has.followers;
+  named = has.named;
+  labels = has.labels;
+  lattices = λ kept. more (has.lattices kept);
 }
 
 -- labels were put down
@@ -123,12 +173,13 @@ has-labelled a b labels ys ls ms pushed has = record {
   followers = has.followers;
   named = has.named;
   labels = opened-then a.labels b.labels labels ls ms has.labels pushed;
+  lattices = has.lattices;
 }
 
 -- ---- an exploration that reached starts
 pub started-none : (a : Exploration) → HasStarted a a []
 unfolding with_all
-started-none a = record { states = refl; limit = refl; pairs = refl; followers = refl; labels = refl }
+started-none a = record { states = refl; limit = refl; pairs = refl; followers = refl; labels = refl; lattices = λ kept. kept }
 
 pub started-numbered : (a b : Exploration) (pairs : Interned) (sets : List (List ℕ)) (ys : List Pair) → pairs ≡ record b.pairs { sets = sets }
     → HasStarted a b ys
@@ -139,6 +190,7 @@ started-numbered a b pairs sets ys numbered has = record {
   pairs = ap (λ (p : Interned). p.pairs) numbered ∙ has.pairs;
   followers = has.followers;
   labels = has.labels;
+  lattices = λ kept. subst (λ l. AreLattices l b.lattices) (sym (ap (λ (p : Interned). p.pairs) numbered)) (has.lattices kept);
 }
 
 pub started-one : (a b : Exploration) (pairs : Interned) (ys : List Pair) (x : Pair)
@@ -152,6 +204,7 @@ started-one a b pairs ys x grown has = record {
       ∙ sym (with_all-append is_same_pair a.pairs.pairs ys (x ∷ []));
   followers = has.followers;
   labels = has.labels;
+  lattices = λ kept. lattices-more b.lattices b.pairs.pairs pairs.pairs x (ap (λ (p : Interned). p.pairs) grown) (has.lattices kept);
 }
 
 -- ---- past the limit

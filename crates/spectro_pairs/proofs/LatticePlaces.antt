@@ -1,5 +1,5 @@
 -- What a place that is put down makes of those that are kept.
-use Rattle.std.proofs.Common.{ℕ, zero, suc, ◌≡◌, ◌<◌, ◌≤◌, ◌⊎◌, inl, inr, List, [], ◌∷◌, set, get_or, length, refl, sym, ap, ◌∙◌, subst, arith, Some}
+use Rattle.std.proofs.Common.{ℕ, zero, suc, ◌≡◌, ◌<◌, ◌≤◌, ◌⊎◌, inl, inr, List, [], ◌∷◌, set, get_or, length, refl, sym, ap, ◌∙◌, subst, arith}
 use Rattle.spectro_game.specs.Reached.{StandsAt}
 use Rattle.spectro_pairs.specs.declared.lattices.Lattices.{Lattices}
 use Rattle.spectro_pairs.specs.declared.lattices.Place.{Place}

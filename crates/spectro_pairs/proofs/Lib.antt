@@ -12,3 +12,4 @@ pub mod Growths
 pub mod Posts
 pub mod Exploring
 pub mod LatticePlaces
+pub mod SubsetSteps

@@ -1,14 +1,15 @@
 -- The submasks of a mask, in rising order, are the subsets of what the mask takes of a set, in the order of their own masks.
-use Rattle.std.proofs.Common.{ℕ, zero, suc, ◌+◌, ◌-◌, ◌*◌, ◌/◌, ◌%◌, ◌^◌, ◌<◌, ◌≤◌, ◌≡◌, List, [], ◌∷◌, length, refl, sym, ap, ◌∙◌, subst, arith, Bool, true, false, cond, eqb, bit_and, min}
-use Rattle.std.specs.Int.{bit_at}
+use Rattle.std.proofs.Common.{ℕ, zero, suc, ◌+◌, ◌-◌, ◌*◌, ◌/◌, ◌%◌, ◌^◌, ◌<◌, ◌≤◌, ◌≡◌, List, [], ◌∷◌, ◌++◌, get_or, length, refl, sym, ap, ◌∙◌, subst, arith, Bool, true, false, cond, eqb, bit_and, min, inl, inr}
 use Rattle.std.proofs.Math.Nat.{pow-suc, pow-le-pow_right}
-use Rattle.std.proofs.lemmas.Bool.{eqb-true, eqb-false}
+use Rattle.std.proofs.lemmas.Bool.{cases_eq, eqb-true, eqb-false}
 use Rattle.std.proofs.lemmas.Nat.Bits.{bit_at-suc, bit_at_and, bit_at_lowest, same_from_bits}
 use Rattle.std.proofs.lemmas.Nat.{and_le_r}
 use Rattle.std.specs.Int.Bits.{and_zero_r}
-use Rattle.spectro_game.specs.Divisions.{Division}
-use Rattle.spectro_theory.proofs.Masks.{division_at, with_member}
-use Rattle.spectro_pairs.specs.Lattices.{submask}
+use Rattle.std.proofs.lemmas.Option.{get_or_from_slice_get}
+use Rattle.spectro_game.specs.Divisions.{Division, divisions}
+use Rattle.spectro_theory.proofs.Masks.{division_at, divisions-place, with_member}
+use Rattle.spectro_pairs.specs.Lattices.{numbers_to, submask}
+use Rattle.spectro_pairs.specs.Subsets.{IsSubsetAt, subset_at}
 
 -- ---- what two numbers share, bit by bit
 and-half : (a b : ℕ) → bit_and a b / 2 ≡ bit_and (a / 2) (b / 2)
@@ -208,3 +209,63 @@ pub submask-within : (mask i : ℕ) → submask mask i ≤ mask
 unfolding submask
 submask-within mask zero = omega arith
 submask-within mask (suc i) = and_le_r (submask mask i + (524287 - mask) + 1) mask
+
+-- ---- subsets by their masks
+pub subset_at-division : (set : List ℕ) (mask : ℕ) → mask < 2 ^ length set → subset_at set mask ≡ (division_at mask set).left
+unfolding subset_at
+subset_at-division set mask below =
+    ap (λ (d : Division). d.left)
+    (get_or_from_slice_get (divisions set) mask (division_at mask set) (record { left = []; right = [] }) (divisions-place set mask below))
+
+pub subset_at-taken : (set : List ℕ) (mask : ℕ) (members : List ℕ) → IsSubsetAt set mask members → members ≡ subset_at set mask
+unfolding subset_at
+subset_at-taken set mask members (division, here, is) =
+    sym is ∙ ap (λ (d : Division). d.left) (sym (get_or_from_slice_get (divisions set) mask division (record { left = []; right = [] }) here))
+
+-- a mask that takes some of what a mask takes is no empty one of the whole
+spread-some : (qs : List ℕ) (mask i : ℕ) → 1 ≤ i → i < 2 ^ length (division_at mask qs).left → 1 ≤ spread qs mask i
+unfolding spread division_at
+spread-some [] mask i some below = absurd (omega arith)
+spread-some (q ∷ qs) mask i some below = go (λ j. spread-some qs (mask / 2) j) (eqb (mask % 2) 1) refl below
+  where
+    go : ((j : ℕ) → 1 ≤ j → j < 2 ^ length (division_at (mask / 2) qs).left → 1 ≤ spread qs (mask / 2) j) → (b : Bool) → eqb (mask % 2) 1 ≡ b
+        → i < 2 ^ length (with_member q b (division_at (mask / 2) qs)).left → 1 ≤ spread (q ∷ qs) mask i
+    go later true set below = elim (cases_eq (i % 2) 1) [
+      | inl odd ↦ omega (arith, spread-set q qs mask i set, odd)
+      | inr even ↦
+          let half = later (i / 2) (omega (arith, even)) (omega (arith, below, pow-suc 2 (length (division_at (mask / 2) qs).left))) in
+          omega (arith, spread-set q qs mask i set, half)
+    ]
+    go later false clear below = omega (arith, spread-clear q qs mask i clear, later i some below)
+
+-- subset i of the subset of a mask is that of its submask i
+pub subset_at-submask : (set : List ℕ) (mask i : ℕ) → length set ≤ 19 → mask < 2 ^ length set → i < 2 ^ length (subset_at set mask)
+    → subset_at set (submask mask i) ≡ subset_at (subset_at set mask) i
+subset_at-submask set mask i few below within =
+    let is = subset_at-division set mask below in
+    let inside : i < 2 ^ length (division_at mask set).left = subst (λ l. i < 2 ^ length l) is within in
+    subset_at-division set (submask mask i) (omega (arith, below, submask-within mask i))
+    ∙ submask-part set mask i below few ∙ sym (subset_at-division (division_at mask set).left i inside) ∙ ap (λ l. subset_at l i) (sym is)
+
+pub submask-some : (set : List ℕ) (mask i : ℕ) → length set ≤ 19 → mask < 2 ^ length set → 1 ≤ i → i < 2 ^ length (subset_at set mask) → 1 ≤ submask mask i
+submask-some set mask i few below some within =
+    let inside : i < 2 ^ length (division_at mask set).left = subst (λ l. i < 2 ^ length l) (subset_at-division set mask below) within in
+    omega (arith, submask-spread set mask i below few, spread-some set mask i some inside)
+
+pub submask-next : (mask i : ℕ) → 1 ≤ i → bit_and (submask mask (i - 1) + (524287 - mask) + 1) mask ≡ submask mask i
+unfolding submask
+submask-next mask zero some = absurd (omega arith)
+submask-next mask (suc i) some =
+    let e : suc i - 1 ≡ i = omega arith in
+    ap (λ j. bit_and (submask mask j + (524287 - mask) + 1) mask) e
+
+pub submask-first : (mask : ℕ) → submask mask 0 ≡ 0
+unfolding submask
+submask-first mask = refl
+
+-- one number more
+pub numbers-more : (table : List ℕ) (mask n : ℕ) → numbers_to table mask (n + 1) ≡ numbers_to table mask n ++ get_or table (submask mask (n + 1)) 0 ∷ []
+unfolding numbers_to
+numbers-more table mask n =
+    let e : suc n ≡ n + 1 = omega arith in
+    subst (λ j. numbers_to table mask j ≡ numbers_to table mask n ++ get_or table (submask mask j) 0 ∷ []) e refl

@@ -7,6 +7,7 @@ use Rattle.spectro_theory.specs.Reaching.{AreReachedPairsTo, with_all, is_same_p
 use Rattle.spectro_lts.specs.Labels.{labels_of, label_of}
 use Rattle.spectro_pairs.specs.Explored.{NameRows, observed_labels, start_pairs}
 use Rattle.spectro_pairs.specs.Known.{Knows}
+use Rattle.spectro_pairs.specs.Lattices.{AreLattices}
 use Rattle.spectro_pairs.specs.Limits.{IsPastLimit}
 use Rattle.spectro_pairs.specs.declared.error.ExploreError.{ExploreError}
 use Rattle.spectro_pairs.specs.declared.exploration.Exploration.{Exploration}
@@ -32,6 +33,10 @@ KeepsPosts old new = (system : System) → ArePosts system old → ArePosts syst
 abbrev pub Name : {X : Type 0} → List X → List ℕ → List X → Type 0
 Name members numbers xs = map (slice_get members) numbers ≡ map Some xs
 
+-- the subsets that are kept are those of pairs, where they were
+abbrev pub KeepsLattices : Exploration → Exploration → Type 0
+KeepsLattices old new = AreLattices old.pairs.pairs old.lattices → AreLattices new.pairs.pairs new.lattices
+
 -- each of the pairs went last unless it stood there; the rest stays, but that more sets may be numbered
 pub record HasStarted (old new : Exploration) (added : List Pair) : Type 0 where
   pub states : new.pairs.states ≡ old.pairs.states
@@ -39,6 +44,7 @@ pub record HasStarted (old new : Exploration) (added : List Pair) : Type 0 where
   pub pairs : new.pairs.pairs ≡ with_all is_same_pair old.pairs.pairs added
   pub followers : new.followers ≡ old.followers
   pub labels : new.labels ≡ old.labels
+  pub lattices : KeepsLattices old new
 
 -- each of the pairs went last unless it stood there, their numbers are behind the open row of followers, and the labels behind that of labels
 pub record HasReached (old new : Exploration) (added : List Pair) (label_nos : List ℕ) : Type 0 where
@@ -49,6 +55,7 @@ pub record HasReached (old new : Exploration) (added : List Pair) (label_nos : L
   pub followers : new.followers ≡ record old.followers { last = old.followers.last ++ numbers }
   pub named : Name new.pairs.pairs numbers added
   pub labels : new.labels ≡ record old.labels { last = old.labels.last ++ label_nos }
+  pub lattices : KeepsLattices old new
 
 -- all that is observed from x was reached
 pub record HasObserved (system : System) (old new : Exploration) (x : Pair) : Type 0 where
@@ -69,6 +76,7 @@ pub record HasExpanded (system : System) (old new : Exploration) (k : ℕ) : Typ
   pub label_nos : List ℕ
   pub label_rows : new.labels ≡ record { rows = old.labels.rows ++ label_nos ∷ []; last = [] }
   pub labelled : Name (labels_of system.steps) label_nos (observed_labels system x)
+  pub lattices : KeepsLattices old new
 
 -- with these pairs the size is past the limit
 abbrev pub IsPastWith : ExploreError → Exploration → List Pair → Type 0
@@ -82,6 +90,7 @@ IsPastFollowers e system exploration k = (x : Pair) × StandsAt exploration.pair
 pub record AreExplored (system : System) (starts : List (ℕ × ℕ)) (exploration : Exploration) (k : ℕ) : Type 0 where
   pub states : exploration.pairs.states ≡ system.states
   pub posts : ArePosts system exploration
+  pub lattices : AreLattices exploration.pairs.pairs exploration.lattices
   pub reached : AreReachedPairsTo system (start_pairs starts) exploration.pairs.pairs k
   pub followers_closed : exploration.followers.last ≡ []
   pub followers : NameRows exploration.pairs.pairs exploration.followers.rows (map (followers system) (take k exploration.pairs.pairs))

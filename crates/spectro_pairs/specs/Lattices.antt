@@ -1,7 +1,7 @@
 -- Tables of the pairs of one state and the subsets of one set, and where the pairs below find their own subsets in them.
-use Rattle.std.specs.Prelude.{ℕ, zero, suc, ◌+◌, ◌-◌, ◌^◌, ◌<◌, ◌≤◌, ◌≡◌, List, length, slice_index, bit_and, Vec}
+use Rattle.std.specs.Prelude.{ℕ, zero, suc, ◌+◌, ◌-◌, ◌^◌, ◌<◌, ◌≤◌, ◌≡◌, List, [], ◌∷◌, ◌++◌, length, slice_index, bit_and, Vec}
 use Rattle.std.specs.declared.alloc.Global.{Global}
-use Rattle.spectro_game.specs.Pairs.{Pair, subsets}
+use Rattle.spectro_game.specs.Pairs.{Pair}
 use Rattle.spectro_game.specs.Reached.{StandsAt}
 use Rattle.spectro_pairs.specs.Subsets.{subset_at}
 use Rattle.spectro_pairs.specs.declared.lattices.Lattices.{Lattices}
@@ -12,10 +12,20 @@ unfoldable pub submask : ℕ → ℕ → ℕ
 submask mask zero = 0
 submask mask (suc i) = bit_and (submask mask i + (524287 - mask) + 1) mask
 
--- the number at the place in the table is that of the state of x and the subset i of its set
+-- the numbers that the table has at the first n submasks that are not 0
+unfoldable pub numbers_to : List ℕ → ℕ → ℕ → List ℕ
+numbers_to table mask zero = []
+numbers_to table mask (suc n) = numbers_to table mask n ++ slice_index table (submask mask (suc n)) ∷ []
+
+-- the number at the place in the table is that of the pair of the state of x and the subset of mask i of its set
 pub record IsEntry (pairs : List Pair) (table : List ℕ) (place : ℕ) (x : Pair) (i : ℕ) : Type 0 where
   pub within : place < length table
   pub there : StandsAt pairs (slice_index table place) (record { state = x.state; set = subset_at x.set i })
+
+-- the table has the numbers of the pairs of the state and the subsets of the masks from 1 up to this one
+pub record IsFilled (pairs : List Pair) (table : List ℕ) (state : ℕ) (set : List ℕ) (mask : ℕ) : Type 0 where
+  pub count : length table ≡ mask
+  pub numbers : (i : ℕ) → 1 ≤ i → i < mask → StandsAt pairs (slice_index table i) (record { state = state; set = subset_at set i })
 
 -- the place is kept for pair k, and has a mask
 pub record HasPlace (lattices : Lattices) (k : ℕ) (place : Place) : Type 0 where

@@ -3,7 +3,7 @@
 // them, and no other queue is kept. Sets go by number too, as in the subset construction (Rabin and Scott, 1959): each is
 // kept once, and a pair is two numbers. A search in depth would need a stack as deep as the arena, and a set that is kept
 // with each of its pairs would be kept many times over.
-ghost use Rattle.std.specs.Prelude.{◌≡◌, ◌<◌, ◌≤◌, [], ◌∷◌, length, map, All, IfOk, IfErr, OnOk};
+ghost use Rattle.std.specs.Prelude.{◌≡◌, ◌<◌, ◌≤◌, ◌^◌, [], ◌∷◌, length, map, All, IfOk, IfErr, OnOk};
 ghost use Rattle.spectro_spec.specs.System.{post};
 ghost use Rattle.spectro_game.specs.Pairs.{observed, subsets, swaps};
 ghost use Rattle.spectro_game.specs.Reached.{StandsAt};
@@ -11,16 +11,22 @@ ghost use Rattle.spectro_lts.specs.Labels.{labels_of, label_of};
 ghost use Rattle.spectro_pairs.specs.Explored.{IsSetWithin, start_pair};
 ghost use Rattle.spectro_pairs.specs.Interned.{pair_at};
 ghost use Rattle.spectro_pairs.specs.Growth.{pair_of, ArePosts, KeepsPosts, HasReached, HasStarted, HasObserved, HasExpanded, IsPastWith, IsPastFollowers};
+ghost use Rattle.spectro_pairs.specs.Lattices.{AreLattices, HasPlace, IsFilled};
+ghost use Rattle.spectro_pairs.specs.Subsets.{subset_at};
 ghost use Rattle.spectro_pairs.specs.declared.pairs.TheConstants.{MAX_LIMIT};
 
 use crate::ExploreError;
 use crate::known::Known;
+use crate::lattices::{Lattices, Place, push_submasks};
 use crate::pairs::Pairs;
 use crate::subsets::take_subset;
 use smallvec::SmallVec;
 use spectro_lts::Lts;
 use spectro_rows::Rows;
 use std::alloc::{AllocError, Global};
+
+// From so many members on the subsets of a set are kept: of fewer a look-up of each costs less than a table.
+const WIDE: usize = 5;
 
 /// The pairs that are reached so far, and for the first of them the numbers of the pairs that follow and of the labels of
 /// their observations.
@@ -33,6 +39,7 @@ pub(crate) struct Exploration {
     pub(crate) followers: Rows<u32>,
     pub(crate) labels: Rows<u32>,
     posts: Known,
+    lattices: Lattices,
 }
 
 impl Exploration {
@@ -43,12 +50,14 @@ impl Exploration {
         ensures followers { IfOk result (λ exploration. exploration.followers ≡ record { rows = []; last = [] }) }
         ensures labels { IfOk result (λ exploration. exploration.labels ≡ record { rows = []; last = [] }) }
         ensures posts { IfOk result (ArePosts lts.now) }
+        ensures lattices { IfOk result (λ exploration. AreLattices exploration.pairs.pairs exploration.lattices) }
     {
         Ok(Exploration {
             pairs: Pairs::new(alloc, lts.states(), limit)?,
             followers: Rows::new(alloc),
             labels: Rows::new(alloc),
             posts: Known::new(alloc, lts.label_count(), limit as usize)?,
+            lattices: Lattices::new(alloc),
         })
     }
 
@@ -72,6 +81,7 @@ impl Exploration {
         requires within { k < length self.old.pairs.pairs }
         requires closed { (self.old.followers.last ≡ []) × (self.old.labels.last ≡ []) }
         requires posts { ArePosts lts.now self.old }
+        requires lattices { AreLattices self.old.pairs.pairs self.old.lattices }
         ensures ok { OnOk result (HasExpanded lts.now self.old self.new k) }
         ensures posts { OnOk result (ArePosts lts.now self.new) }
         ensures limit { IfErr result (λ e. IsPastFollowers e lts.now self.old k) }
@@ -106,12 +116,13 @@ impl Exploration {
         requires few { length set.now ≤ 19 }
         requires closed { (self.old.followers.last ≡ []) × (self.old.labels.last ≡ []) }
         requires posts { ArePosts lts.now self.old }
+        requires lattices { AreLattices self.old.pairs.pairs self.old.lattices }
         ensures ok { OnOk result (HasExpanded lts.now self.old self.new k) }
         ensures posts { OnOk result (ArePosts lts.now self.new) }
         ensures limit { IfErr result (λ e. IsPastFollowers e lts.now self.old k) }
     {
         self.add_observations(lts, state, set)?;
-        self.add_subsets(alloc, state, set)?;
+        self.add_subsets(alloc, k, state, set)?;
         self.add_swaps(state, set)?;
         self.followers.close()?;
         self.labels.close()?;
@@ -187,8 +198,106 @@ impl Exploration {
         Ok(())
     }
 
-    // Reaches the state against each subset that is not empty.
-    fn add_subsets(&mut self, alloc: Global, state: u32, set: &[u32]) -> Result<(), ExploreError>
+    // Reaches the state, that of pair `k`, against each subset of its set that is not empty.
+    fn add_subsets(
+        &mut self,
+        alloc: Global,
+        k: u32,
+        state: u32,
+        set: &[u32],
+    ) -> Result<(), ExploreError>
+        requires here { StandsAt self.old.pairs.pairs k (pair_of state set.now) }
+        requires state { state < self.old.pairs.states }
+        requires set { IsSetWithin self.old.pairs.states set.now }
+        requires few { length set.now ≤ 19 }
+        requires lattices { AreLattices self.old.pairs.pairs self.old.lattices }
+        ensures ok { OnOk result (HasReached self.old self.new (subsets (pair_of state set.now)) []) }
+        ensures posts { OnOk result (KeepsPosts self.old self.new) }
+        ensures limit { IfErr result (λ e. IsPastWith e self.old (subsets (pair_of state set.now))) }
+    {
+        if let Some(place) = self.lattices.place(k) {
+            self.add_kept_subsets(place, k, state, set)?;
+            return Ok(());
+        }
+        if set.len() < WIDE {
+            return self.add_each_subset(alloc, state, set);
+        }
+        self.add_wide_subsets(alloc, state, set)
+    }
+
+    // Puts down the numbers of the pairs of the state and the subsets as they are kept.
+    fn add_kept_subsets(
+        &mut self,
+        place: Place,
+        k: u32,
+        state: u32,
+        set: &[u32],
+    ) -> Result<(), AllocError>
+        requires here { StandsAt self.old.pairs.pairs k (pair_of state set.now) }
+        requires few { length set.now ≤ 19 }
+        requires lattices { AreLattices self.old.pairs.pairs self.old.lattices }
+        requires place { HasPlace self.old.lattices k place }
+        ensures ok { OnOk result (HasReached self.old self.new (subsets (pair_of state set.now)) []) }
+        ensures posts { OnOk result (KeepsPosts self.old self.new) }
+    {
+        let table = self.lattices.table(place);
+        let count = (1 << set.len()) - 1;
+        push_submasks(&mut self.followers, table, place.mask, count)
+    }
+
+    // Reaches the state against each subset, and keeps their numbers.
+    fn add_wide_subsets(
+        &mut self,
+        alloc: Global,
+        state: u32,
+        set: &[u32],
+    ) -> Result<(), ExploreError>
+        requires state { state < self.old.pairs.states }
+        requires set { IsSetWithin self.old.pairs.states set.now }
+        requires few { length set.now ≤ 19 }
+        ensures ok { OnOk result (HasReached self.old self.new (subsets (pair_of state set.now)) []) }
+        ensures posts { OnOk result (KeepsPosts self.old self.new) }
+        ensures limit { IfErr result (λ e. IsPastWith e self.old (subsets (pair_of state set.now))) }
+    {
+        let mut table = Vec::with_capacity(alloc, 1 << set.len())?;
+        table.push(0)?;
+        self.fill_table(alloc, state, set, &mut table)?;
+        self.lattices.keep(table, self.pairs.len())?;
+        Ok(())
+    }
+
+    // Reaches the state against each subset, and puts their numbers behind the one for no member.
+    fn fill_table(
+        &mut self,
+        alloc: Global,
+        state: u32,
+        set: &[u32],
+        table: &mut Vec<u32>,
+    ) -> Result<(), ExploreError>
+        requires state { state < self.old.pairs.states }
+        requires set { IsSetWithin self.old.pairs.states set.now }
+        requires few { length set.now ≤ 19 }
+        requires first { length table.old.items ≡ 1 }
+        ensures ok { OnOk result (HasReached self.old self.new (subsets (pair_of state set.now)) []) }
+        ensures posts { OnOk result (KeepsPosts self.old self.new) }
+        ensures filled { OnOk result (IsFilled self.new.pairs.pairs table.new.items state set.now (2 ^ length set.now)) }
+        ensures limit { IfErr result (λ e. IsPastWith e self.old (subsets (pair_of state set.now))) }
+    {
+        let mut subset = SmallVec::new(alloc);
+        for mask in 1..1 << set.len() {
+            let k = self.add_subset(state, set, mask, &mut subset)?;
+            table.push(k)?;
+        }
+        Ok(())
+    }
+
+    // Reaches the state against each subset.
+    fn add_each_subset(
+        &mut self,
+        alloc: Global,
+        state: u32,
+        set: &[u32],
+    ) -> Result<(), ExploreError>
         requires state { state < self.old.pairs.states }
         requires set { IsSetWithin self.old.pairs.states set.now }
         requires few { length set.now ≤ 19 }
@@ -198,10 +307,30 @@ impl Exploration {
     {
         let mut subset = SmallVec::new(alloc);
         for mask in 1..1 << set.len() {
-            take_subset(set, mask, &mut subset)?;
-            self.add_pair(state, subset.as_slice())?;
+            self.add_subset(state, set, mask, &mut subset)?;
         }
         Ok(())
+    }
+
+    // Reaches the state against the subset of the mask, which is taken into `subset`, and answers the number of the pair.
+    fn add_subset(
+        &mut self,
+        state: u32,
+        set: &[u32],
+        mask: u32,
+        subset: &mut SmallVec<u32, 16>,
+    ) -> Result<u32, ExploreError>
+        requires state { state < self.old.pairs.states }
+        requires set { IsSetWithin self.old.pairs.states set.now }
+        requires few { length set.now ≤ 19 }
+        requires mask { mask < 2 ^ length set.now }
+        ensures ok { OnOk result (HasReached self.old self.new (pair_of state (subset_at set.now mask) ∷ []) []) }
+        ensures posts { OnOk result (KeepsPosts self.old self.new) }
+        ensures number { IfOk result (λ k. StandsAt self.new.pairs.pairs k (pair_of state (subset_at set.now mask))) }
+        ensures limit { IfErr result (λ e. IsPastWith e self.old (pair_of state (subset_at set.now mask) ∷ [])) }
+    {
+        take_subset(set, mask, subset)?;
+        self.add_pair(state, subset.as_slice())
     }
 
     // Reaches each other member of the set against the state.
@@ -220,30 +349,31 @@ impl Exploration {
         Ok(())
     }
 
-    // Reaches the pair of the state and the set, and puts its number into the open row.
-    fn add_pair(&mut self, state: u32, set: &[u32]) -> Result<(), ExploreError>
+    // Reaches the pair of the state and the set, puts its number into the open row, and answers it.
+    fn add_pair(&mut self, state: u32, set: &[u32]) -> Result<u32, ExploreError>
         requires state { state < self.old.pairs.states }
         requires set { IsSetWithin self.old.pairs.states set.now }
         ensures ok { OnOk result (HasReached self.old self.new (pair_of state set.now ∷ []) []) }
         ensures posts { OnOk result (KeepsPosts self.old self.new) }
+        ensures number { IfOk result (λ k. StandsAt self.new.pairs.pairs k (pair_of state set.now)) }
         ensures limit { IfErr result (λ e. IsPastWith e self.old (pair_of state set.now ∷ [])) }
     {
         let set_no = self.pairs.number_set(set)?;
-        self.add(state, set_no)?;
-        Ok(())
+        self.add(state, set_no)
     }
 
-    // Reaches the pair of the state and the set of the number, and puts its number into the open row.
-    fn add(&mut self, state: u32, set: u32) -> Result<(), ExploreError>
+    // Reaches the pair of the state and the set of the number, puts its number into the open row, and answers it.
+    fn add(&mut self, state: u32, set: u32) -> Result<u32, ExploreError>
         requires state { state < self.old.pairs.states }
         requires set { set < length self.old.pairs.sets }
         ensures ok { OnOk result (HasReached self.old self.new (pair_at self.old.pairs.sets state set ∷ []) []) }
         ensures posts { OnOk result (KeepsPosts self.old self.new) }
         ensures sets { OnOk result (self.new.pairs.sets ≡ self.old.pairs.sets) }
+        ensures number { IfOk result (λ k. StandsAt self.new.pairs.pairs k (pair_at self.old.pairs.sets state set)) }
         ensures limit { IfErr result (λ e. IsPastWith e self.old (pair_at self.old.pairs.sets state set ∷ [])) }
     {
         let k = self.pairs.reach(state, set)?;
         self.followers.push(k)?;
-        Ok(())
+        Ok(k)
     }
 }

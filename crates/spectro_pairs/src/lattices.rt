@@ -2,12 +2,13 @@
 // state, if each is looked up by its members. So where a wide set is met first, the numbers of the pairs with its subsets
 // are kept in a table by mask, and the pairs below it read theirs in it: the subsets of a subset are the submasks of its
 // mask, in the same order.
-ghost use Rattle.std.specs.Prelude.{ℕ, ◌≡◌, ◌<◌, ◌≤◌, ◌⊎◌, Vec, length, slice_index, IfSome, OnOk};
+ghost use Rattle.std.specs.Prelude.{ℕ, ◌≡◌, ◌<◌, ◌≤◌, ◌⊎◌, ◌++◌, Vec, length, slice_index, IfSome, OnOk};
 ghost use Rattle.std.specs.declared.alloc.Global.{Global};
 ghost use Rattle.spectro_game.specs.Reached.{StandsAt};
-ghost use Rattle.spectro_pairs.specs.Lattices.{HasPlace, IsAtMask, IsNewPlace};
+ghost use Rattle.spectro_pairs.specs.Lattices.{HasPlace, IsAtMask, IsNewPlace, numbers_to, submask};
 ghost use Rattle.spectro_pairs.specs.declared.lattices.Place.{Place};
 
+use spectro_rows::Rows;
 use std::alloc::{AllocError, Global};
 
 /// Where the subsets of the set of a pair are: at the submasks of the mask in the table.
@@ -19,6 +20,9 @@ pub(crate) struct Place {
 
 // The place of a pair that is below no set whose subsets are kept.
 const NOWHERE: Place = Place { table: 0, mask: 0 };
+
+// The mask of as many members as a set may have within the limit.
+const FULL_MASK: u32 = 524_287;
 
 // How many tables there may be.
 const MAX_TABLES: usize = 4_294_967_295;
@@ -104,4 +108,25 @@ impl Lattices {
             };
         }
     }
+}
+
+/// Puts down the numbers that the table has at the first submasks of the mask, so many from the least that is not 0 on.
+pub(crate) fn push_submasks(
+    followers: &mut Rows<u32>,
+    table: &[u32],
+    mask: u32,
+    count: u32,
+) -> Result<(), AllocError>
+    requires mask { mask < 524288 }
+    requires within { (i : ℕ) → 1 ≤ i → i ≤ count → submask mask i < length table.now }
+    ensures { OnOk result (followers.new ≡ record followers.old { last = followers.old.last ++ numbers_to table.now mask count }) }
+{
+    let rest = FULL_MASK - mask;
+    let mut submask = 0;
+    for _ in 0..count {
+        // What is not in the mask is filled with ones, so that one more is carried through it.
+        submask = (submask + rest + 1) & mask;
+        followers.push(table[submask as usize])?;
+    }
+    Ok(())
 }

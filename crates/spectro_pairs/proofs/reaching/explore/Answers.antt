@@ -24,7 +24,7 @@ loop-k-init c =
       explored =
           explored-none c.args.lts.now c.args.starts.now c.in_ok-exploration.exploration c.start.new.self c.args.limit c.in_ok-exploration.ensures.pairs
           c.in_ok-exploration.ensures.followers c.in_ok-exploration.ensures.labels
-          c.in_ok-start.ensures.ok (c.in_ok-start.ensures.posts c.args.lts.now c.in_ok-exploration.ensures.posts);
+          c.in_ok-start.ensures.ok (c.in_ok-start.ensures.posts c.args.lts.now c.in_ok-exploration.ensures.posts) c.in_ok-exploration.ensures.lattices;
       within = omega arith;
       limit = c.in_ok-start.ensures.ok.limit ∙ ap (λ (p : Interned). p.limit) c.in_ok-exploration.ensures.pairs;
     }
@@ -94,3 +94,6 @@ returns-clause-explored c =
     let all = explored_all (goal.at.returns-clause-explored c).After-loop-k in
     explored-all c.args.lts.now c.args.starts.now c.loop-k.exploration c.loop-k.k c.loop-k.invariant.explored all c.args.weights.now
     c.in_ok-weights.weights.items c.len.ensures.within c.in_ok-weights.ensures.bytes c.in_ok-weights.ensures.proper
+
+pub expand-requires-clause-lattices : goal.expand-requires-clause-lattices
+expand-requires-clause-lattices c = c.loop-k.invariant.explored.lattices

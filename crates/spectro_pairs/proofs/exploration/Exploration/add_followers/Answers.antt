@@ -1,7 +1,11 @@
 -- The followers are what is observed, then the subsets, then the swaps, in a row more.
-use Rattle.std.proofs.Common.{[], ◌++◌, sym, append-nil, refl}
+use Rattle.std.proofs.Common.{[], ◌++◌, sym, subst, append-nil, refl}
 use Rattle.std.proofs.lemmas.Result.{err_from_is_err_and}
 use Rattle.spectro_game.specs.Pairs.{followers, observed, subsets, swaps}
+use Rattle.spectro_game.specs.Reached.{StandsAt}
+use Rattle.spectro_theory.specs.Reaching.{is_same_pair}
+use Rattle.spectro_theory.proofs.PutLast.{stands-with_all}
+use Rattle.spectro_theory.proofs.Reaching.{same_pair-equal, same_pair-itself}
 use Rattle.spectro_pairs.specs.Growth.{HasObserved, HasReached, pair_of}
 use Rattle.spectro_pairs.proofs.Growths.{closed-opened, has-next, has-then, past-more, past-then}
 use Rattle.spectro_pairs.proofs.Posts.{posts-kept}
@@ -91,6 +95,7 @@ returns-clause-ok c =
       label_nos = has.label_nos;
       label_rows = closed-opened a.labels f.labels c.close-2.new.self has.label_nos all.labels c.requires.closed.1 c.in_ok-close-2.ensures.ok;
       labelled = has.labelled;
+      lattices = all.lattices;
     }
 
 pub returns-clause-posts : goal.returns-clause-posts
@@ -98,3 +103,13 @@ returns-clause-posts c =
     let f = c.add_swaps.new.self in
     posts-kept f (record f { followers = c.close.new.self; labels = c.close-2.new.self }) refl (λ n set here. here) c.args.lts.now
     (c.in_ok-add_swaps.ensures.posts c.args.lts.now (c.in_ok-add_subsets.ensures.posts c.args.lts.now c.in_ok-add_observations.ensures.posts))
+
+pub add_subsets-requires-clause-here : goal.add_subsets-requires-clause-here
+add_subsets-requires-clause-here c =
+    let has = c.in_ok-add_observations.ensures.ok.reached in
+    subst (λ l. StandsAt l c.args.k (pair_of c.args.state c.args.set.now)) (sym has.pairs)
+    (stands-with_all is_same_pair same_pair-equal same_pair-itself (observed c.args.lts.now (pair_of c.args.state c.args.set.now))
+    c.args.self.now.pairs.pairs c.args.k (pair_of c.args.state c.args.set.now) c.requires.here)
+
+pub add_subsets-requires-clause-lattices : goal.add_subsets-requires-clause-lattices
+add_subsets-requires-clause-lattices c = c.in_ok-add_observations.ensures.ok.reached.lattices c.requires.lattices

@@ -1,6 +1,7 @@
 -- The set is numbered, and then the pair is reached.
-use Rattle.std.proofs.Common.{◌≡◌, [], ◌∷◌, bytes_eq, ap, subst, arith, refl}
-use Rattle.std.proofs.lemmas.Result.{err_from_is_err_and}
+use Rattle.std.proofs.Common.{◌≡◌, [], ◌∷◌, bytes_eq, ap, subst, arith, refl, IfOk}
+use Rattle.std.proofs.lemmas.Result.{IfErr-weaker, on_ok_weaker}
+use Rattle.spectro_game.specs.Reached.{StandsAt}
 use Rattle.spectro_theory.specs.Reaching.{with_last}
 use Rattle.spectro_theory.proofs.Places.{stands-below}
 use Rattle.spectro_pairs.specs.Interned.{Interned, pair_at}
@@ -26,16 +27,16 @@ add-requires-clause-state c = omega (arith, c.requires.state, ap (λ (p : Intern
 pub add-requires-clause-set : goal.add-requires-clause-set
 add-requires-clause-set c = stands-below c.number_set.new.self.sets c.in_ok-set_no.set_no _ c.in_ok-set_no.ensures.number
 
-pub returns-in_err-add-clause-limit : goal.returns-in_err-add-clause-limit
-returns-in_err-add-clause-limit c =
-    let p = err_from_is_err_and c.from_residual-in_err-add.result c.from_residual-in_err-add.ensures.1 in
+pub returns-clause-limit : goal.returns-clause-limit
+returns-clause-limit c =
     let a = c.args.self.now in
     let b = record a { pairs = c.number_set.new.self } in
     let x = pair_of c.args.state c.args.set.now in
-    let has = numbered (goal.at.returns-in_err-add-clause-limit c).In_ok-set_no in
-    let is = pair-is (goal.at.returns-in_err-add-clause-limit c).In_ok-set_no in
-    let past = subst (λ x. IsPastWith c.in_err-add.field-0.0 b (x ∷ [])) is c.in_err-add.ensures.limit in
-    rw (p.1, p.2) (past-whole c.in_err-add.field-0.0 a b [] (x ∷ []) [] (x ∷ []) has.limit has.pairs past refl)
+    let added = pair_at c.number_set.new.self.sets c.args.state c.in_ok-set_no.set_no in
+    let has = numbered (goal.at.returns-clause-limit c).In_ok-set_no in
+    let is = pair-is (goal.at.returns-clause-limit c).In_ok-set_no in
+    IfErr-weaker c.add.result (λ e. IsPastWith e b (added ∷ [])) (λ e. IsPastWith e a (x ∷ []))
+    (λ e past. past-whole e a b [] (x ∷ []) [] (x ∷ []) has.limit has.pairs (subst (λ y. IsPastWith e b (y ∷ [])) is past) refl) c.add.ensures.limit
 
 pub returns-clause-ok : goal.returns-clause-ok
 returns-clause-ok c =
@@ -44,9 +45,18 @@ returns-clause-ok c =
     let x = pair_of c.args.state c.args.set.now in
     let has = numbered (goal.at.returns-clause-ok c).In_ok-set_no in
     let is = pair-is (goal.at.returns-clause-ok c).In_ok-set_no in
-    let added = subst (λ x. HasReached b c.add.new.self (x ∷ []) []) is c.in_ok-add.ensures.ok in
-    has-next a b c.add.new.self [] (x ∷ []) (x ∷ []) [] [] [] has added refl refl
+    on_ok_weaker c.add.result
+    (λ added. has-next a b c.add.new.self [] (x ∷ []) (x ∷ []) [] [] [] has (subst (λ y. HasReached b c.add.new.self (y ∷ []) []) is added) refl refl)
+    c.add.ensures.ok
+
+pub returns-clause-number : goal.returns-clause-number
+returns-clause-number c =
+    subst (λ y. IfOk c.add.result (λ k. StandsAt c.add.new.self.pairs.pairs k y)) (pair-is (goal.at.returns-clause-number c).In_ok-set_no)
+    c.add.ensures.number
 
 pub returns-clause-posts : goal.returns-clause-posts
-returns-clause-posts c system posts =
-    c.in_ok-add.ensures.posts system (posts-numbered c.args.self.now c.number_set.new.self c.args.set.now c.in_ok-set_no.ensures.ok system posts)
+returns-clause-posts c =
+    on_ok_weaker c.add.result
+    (λ kept system posts. kept system
+    (posts-numbered c.args.self.now c.number_set.new.self c.args.set.now c.in_ok-set_no.ensures.ok system posts))
+    c.add.ensures.posts

@@ -1,5 +1,5 @@
 -- A place that is there was there before, or is that of the mask.
-use Rattle.std.proofs.Common.{◌≡◌, ◌∙◌, ◌+◌, inl, inr, ℕ, List, get_or, set, length, refl, arith}
+use Rattle.std.proofs.Common.{◌∙◌, inl, inr, get_or, refl, arith}
 use Rattle.std.proofs.lemmas.List.{length-set}
 use Rattle.spectro_pairs.specs.declared.lattices.Place.{Place}
 use Rattle.spectro_pairs.proofs.LatticePlaces.{placed-set}

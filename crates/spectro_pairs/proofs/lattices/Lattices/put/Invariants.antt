@@ -1,5 +1,5 @@
 -- The pairs of the masks so far have their places.
-use Rattle.std.proofs.Common.{ℕ, ◌≡◌, ◌<◌, ◌⊎◌, length}
+use Rattle.std.proofs.Common.{ℕ, ◌≡◌, ◌⊎◌, length}
 use Rattle.spectro_pairs.specs.Lattices.{HasPlace, IsAtMask}
 use Rattle.spectro_pairs.specs.declared.lattices.Place.{Place}
 use Rattle.spectro_pairs.proofs.lattices.Lattices.put.Given as goal

@@ -2,7 +2,7 @@
 use Rattle.std.proofs.Common.{[]}
 use Rattle.spectro_pairs.specs.Growth.{HasReached, KeepsPosts}
 use Rattle.spectro_pairs.proofs.Turns.{subsets_to}
-use Rattle.spectro_pairs.proofs.exploration.Exploration.add_subsets.Given as goal
+use Rattle.spectro_pairs.proofs.exploration.Exploration.add_each_subset.Given as goal
 
 abbrev pub invariant-loop-mask : goal.invariant-loop-mask
 invariant-loop-mask l = record {
