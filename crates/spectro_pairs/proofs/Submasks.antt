@@ -96,7 +96,8 @@ module _ where
       go (λ j. and-spread qs w (mask / 2) (rest / 2) j (omega (arith, pow-suc 2 (length qs))) (omega arith) (halves w rest mask is).0)
       (eqb (mask % 2) 1) refl
     where
-      go : ((j : ℕ) → bit_and (spread qs (mask / 2) j + rest / 2) (mask / 2) ≡ spread qs (mask / 2) j) → (b : Bool) → eqb (mask % 2) 1 ≡ b → bit_and (spread (q ∷ qs) mask i + rest) mask ≡ spread (q ∷ qs) mask i
+      go : ((j : ℕ) → bit_and (spread qs (mask / 2) j + rest / 2) (mask / 2) ≡ spread qs (mask / 2) j) → (b : Bool)
+          → eqb (mask % 2) 1 ≡ b → bit_and (spread (q ∷ qs) mask i + rest) mask ≡ spread (q ∷ qs) mask i
       go rests true set =
           let bit : mask % 2 ≡ 1 = eqb-true (mask % 2) 1 set in
           let parts = halves w rest mask is in
@@ -136,7 +137,8 @@ module _ where
       (eqb (mask % 2) 1) refl (eqb (i % 2) 1) refl
     where
       go : ((j : ℕ) → bit_and (spread qs (mask / 2) j + rest / 2 + 1) (mask / 2) ≡ spread qs (mask / 2) (j + 1))
-          → ((j : ℕ) → bit_and (spread qs (mask / 2) j + rest / 2) (mask / 2) ≡ spread qs (mask / 2) j) → (b : Bool) → eqb (mask % 2) 1 ≡ b → (odd : Bool) → eqb (i % 2) 1 ≡ odd
+          → ((j : ℕ) → bit_and (spread qs (mask / 2) j + rest / 2) (mask / 2) ≡ spread qs (mask / 2) j) → (b : Bool)
+          → eqb (mask % 2) 1 ≡ b → (odd : Bool) → eqb (i % 2) 1 ≡ odd
           → bit_and (spread (q ∷ qs) mask i + rest + 1) mask ≡ spread (q ∷ qs) mask (i + 1)
       go nexts rests true set true odd =
           let bit : mask % 2 ≡ 1 = eqb-true (mask % 2) 1 set in

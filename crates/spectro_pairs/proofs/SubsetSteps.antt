@@ -102,8 +102,8 @@ placed-new pairs lattices table state set k place few filled new =
 
 -- ---- what is read from a table
 -- the entries of the pair of the number
-pub entry-of : (pairs : List Pair) (tables : List (Vec ℕ Global)) (k : ℕ) (place : Place) (x : Pair) (placed : IsPlaced pairs tables k place) → StandsAt pairs k x
-    → (i : ℕ) → 1 ≤ i → i < 2 ^ length x.set → IsEntry pairs placed.table.items (submask place.mask i) x i
+pub entry-of : (pairs : List Pair) (tables : List (Vec ℕ Global)) (k : ℕ) (place : Place) (x : Pair) (placed : IsPlaced pairs tables k place)
+    → StandsAt pairs k x → (i : ℕ) → 1 ≤ i → i < 2 ^ length x.set → IsEntry pairs placed.table.items (submask place.mask i) x i
 entry-of pairs tables k place x placed here =
     subst (λ (y : Pair). (i : ℕ) → 1 ≤ i → i < 2 ^ length y.set → IsEntry pairs placed.table.items (submask place.mask i) y i)
     (stands-one pairs k placed.x x placed.here here) placed.entries

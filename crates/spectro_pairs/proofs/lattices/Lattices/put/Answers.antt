@@ -25,8 +25,9 @@ loop-mask-preserved c =
     record {
       tables = c.loop-mask.invariant.tables;
       count = length-set a.places.items n here ∙ c.loop-mask.invariant.count;
-      places = λ k place has. elim (placed-set a _ c.args.table.now c.args.no c.loop-mask.mask n refl refl c.loop-mask.auto.mask c.loop-mask-test.true k place has) [
-        | inl old ↦ c.loop-mask.invariant.places k place old
-        | inr new ↦ inr new
-      ];
+      places = λ k place has. elim
+          (placed-set a _ c.args.table.now c.args.no c.loop-mask.mask n refl refl c.loop-mask.auto.mask c.loop-mask-test.true k place has) [
+            | inl old ↦ c.loop-mask.invariant.places k place old
+            | inr new ↦ inr new
+          ];
     }
