@@ -14,7 +14,7 @@ use Rattle.spectro_theory.proofs.Places.{stands-one}
 use Rattle.spectro_rows.specs.Rows.{row_at}
 use Rattle.spectro_pairs.specs.Arenas.{ArePredecessors}
 use Rattle.spectro_pairs.specs.Explored.{Explored}
-use Rattle.spectro_solve.specs.Changes.{Changes, AreChanges, ArePut, IsPutAt, HasEvaluated, PrecedesSome}
+use Rattle.spectro_solve.specs.Changes.{Changes, AreChanges, ArePut, IsPutAt, HasEvaluated, PrecedesSome, HasChange}
 use Rattle.spectro_solve.specs.Evaluations.{IsEvaluated}
 use Rattle.spectro_solve.specs.Marks.{IsMarked}
 use Rattle.spectro_solve.specs.declared.generations.Change.{Change}
@@ -209,3 +209,34 @@ some-member (x ∷ xs) n many some = (x, Contains-first x xs)
 pub nothing : {X : Type 0} (xs : List X) → length xs ≡ 0 → xs ≡ []
 nothing [] none = refl
 nothing (x ∷ xs) none = absurd (omega arith)
+
+-- one change more is marked
+pub changed-more : (changes : List Change) (i : ℕ) (d : Change) (old mid new : List Bool) → i < length changes → d ≡ get_or changes i d → d.pair < length mid
+    → ((k : ℕ) → IsMarked mid k ↔ IsMarked old k ⊎ HasChange (take i changes) k) → new ≡ set mid d.pair true
+    → (k : ℕ) → IsMarked new k ↔ IsMarked old k ⊎ HasChange (take (i + 1) changes) k
+changed-more changes i d old mid new below is inside before now k = (
+  (λ marked. elim (let h : (k ≡ d.pair) ⊎ (k ≢ d.pair) = grind arith in h) [
+    | inl same ↦ inr (
+      d.list,
+      subst (λ n. Contains (take (i + 1) changes) (record { pair = n; list = d.list })) (sym same)
+          (subst (Contains (take (i + 1) changes)) (sym is) (more-new changes i d below)),
+    )
+    | inr other ↦ elim ((before k).0 (sym (get_or-set_other mid d.pair k true false other) ∙ ap (λ flags. get_or flags k false) (sym now) ∙ marked)) [
+      | inl was ↦ inl was
+      | inr (list, change) ↦ inr (list, more-old changes i d (record { pair = k; list = list }) below change)
+    ]
+  ]),
+  (λ h. ap (λ flags. get_or flags k false) now ∙ elim (let h : (k ≡ d.pair) ⊎ (k ≢ d.pair) = grind arith in h) [
+    | inl same ↦ subst (λ n. get_or (set mid d.pair true) n false ≡ true) (sym same) (get_or-set_same mid d.pair true false inside)
+    | inr other ↦ get_or-set_other mid d.pair k true false other ∙ (before k).1 (elim h [
+      | inl was ↦ inl was
+      | inr (list, change) ↦ inr (
+        list,
+        elim (more-cases changes i d (record { pair = k; list = list }) below change) [
+          | inl earlier ↦ earlier
+          | inr last ↦ absurd (other (ap (λ (c : Change). c.pair) (sym last) ∙ ap (λ (c : Change). c.pair) (sym is)))
+        ],
+      )
+    ])
+  ]),
+)

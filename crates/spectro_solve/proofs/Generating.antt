@@ -22,9 +22,10 @@ use Rattle.spectro_theory.proofs.ReachedPairs.{reached-closed}
 use Rattle.spectro_theory.proofs.RowsOfGenerations.{listed_at-generation}
 use Rattle.spectro_rows.specs.Rows.{row_at}
 use Rattle.spectro_pairs.specs.Explored.{Explored, IsExploredFrom, start_pairs}
-use Rattle.spectro_solve.specs.Changes.{Changes, AreChanges, ArePut, PrecedesSome}
+use Rattle.spectro_solve.specs.Changes.{HasChange, Changes, AreChanges, ArePut, PrecedesSome}
 use Rattle.spectro_solve.specs.Counts.{changing_generations_to}
 use Rattle.spectro_solve.specs.Evaluations.{IsEvaluated}
+use Rattle.spectro_solve.specs.Fresh.{AreFresh}
 use Rattle.spectro_solve.specs.Marks.{IsMarked, count_marked}
 use Rattle.spectro_solve.specs.Solving.{IsAfter, evaluations_before}
 use Rattle.spectro_solve.specs.Tables.{Solved}
@@ -77,6 +78,10 @@ module _ (weighing : Weighing) (system : System) (starts : List (ℕ × ℕ)) (e
     ]
     | inr unmarked ↦ inl (unmarked-keeps weighing system n x unmarked)
   ]
+
+  -- where a change is marked, what is not marked kept its list
+  pub fresh-after : (fresh : List Bool) → ((k : ℕ) → HasChange changes k → IsMarked fresh k) → AreFresh weighing system explored.pairs (suc n) fresh
+  fresh-after fresh marked j y there stale = elim (kept-or-changed j y there) [ inl kept ↦ kept | inr change ↦ absurd (stale (marked j change)) ]
 
   change-is : (k : ℕ) (x : Pair) (list : List Price) → StandsAt explored.pairs k x → Changes changes k list → list ≡ later x
   change-is k x list here change = evaluated-is k x list here (found.evaluated k list change)

@@ -8,6 +8,10 @@ pub mod ClauseLists
 pub mod SplitPrices
 pub mod AllSplits
 pub mod Evaluating
+pub mod FreshPrices
+pub mod StaleSplits
+pub mod FreshEvaluating
+pub mod FreshKept
 pub mod MaskBits
 pub mod Choosing
 pub mod Marked

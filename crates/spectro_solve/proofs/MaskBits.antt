@@ -91,3 +91,9 @@ power-fits n few =
     let bound : 2 ^ n < 2 ^ 20 = pow-lt {i = n} {j = 20} (omega arith) in
     let numeral : 2 ^ 20 ≡ 1048576 = refl in
     omega arith
+
+pub power-fits-half : (n : ℕ) → n ≤ 19 → (1 * 2 ^ n) % 4294967296 ≡ 2 ^ n
+power-fits-half n few =
+    let bound : 2 ^ n < 2 ^ 20 = pow-lt {i = n} {j = 20} (omega arith) in
+    let numeral : 2 ^ 20 ≡ 1048576 = refl in
+    omega arith

@@ -13,6 +13,10 @@ use Rattle.spectro_solve.specs.declared.generations.Change.{Change}
 abbrev pub Changes : List Change → ℕ → List Price → Type 0
 Changes changes k list = Contains changes (record { pair = k; list = list })
 
+-- pair k has a new list
+abbrev pub HasChange : List Change → ℕ → Type 0
+HasChange changes k = (list : List Price) × Changes changes k list
+
 -- each is of one of the first n pairs
 abbrev pub AreWithin : ℕ → List Change → Type 0
 AreWithin n changes = (k : ℕ) (list : List Price) → Changes changes k list → k < n

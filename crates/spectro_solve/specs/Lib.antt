@@ -5,6 +5,7 @@ pub mod Counts
 pub mod Observations
 pub mod Clauses
 pub mod Choices
+pub mod Fresh
 pub mod Marks
 pub mod Changes
 pub mod Solving

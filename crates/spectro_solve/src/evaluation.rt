@@ -13,9 +13,9 @@ use std::sync::ledger::Ledger;
 
 /// The work lists of an evaluation, which are lent from one to the next.
 #[derive(Drop)]
-pub struct Work {
-    clauses: Vec<Antichain>,
-    chosen: Vec<Antichain>,
+pub(crate) struct Work {
+    pub(crate) clauses: Vec<Antichain>,
+    pub(crate) chosen: Vec<Antichain>,
 }
 
 impl Work {

@@ -1,6 +1,6 @@
 // Each generation reads the table as the one before left it, so a new list waits in a side list until all marked pairs are
 // evaluated. The marks keep a generation from going over pairs whose followers stayed as they were.
-ghost use Rattle.std.specs.Prelude.{◌≡◌, ◌+◌, ◌*◌, ◌^◌, ◌<◌, ◌≤◌, ◌↔◌, ◌⊎◌, ℕ, [], length, replicate, set, All, Contains, IfOk, OnOk, OnErr};
+ghost use Rattle.std.specs.Prelude.{suc, ◌≡◌, ◌+◌, ◌*◌, ◌^◌, ◌<◌, ◌≤◌, ◌↔◌, ◌⊎◌, ℕ, [], length, replicate, set, All, Contains, IfOk, OnOk, OnErr};
 ghost use Rattle.spectro_spec.specs.Weighing.{Weighing};
 ghost use Rattle.spectro_game.specs.Marks.{evaluations};
 ghost use Rattle.spectro_game.specs.Rows.{IsSolved};
@@ -11,10 +11,12 @@ ghost use Rattle.spectro_pairs.specs.Arenas.{FromEach};
 ghost use Rattle.spectro_solve.specs.Marks.{IsMarked, count_marked};
 ghost use Rattle.spectro_solve.specs.Tables.{HaveRoom};
 ghost use Rattle.spectro_solve.specs.Counts.{changing_generations};
-ghost use Rattle.spectro_solve.specs.Changes.{AreChanges, ArePut, AreWithin, HasEvaluated, PrecedesSome};
+ghost use Rattle.spectro_solve.specs.Changes.{AreChanges, ArePut, AreWithin, HasChange, HasEvaluated, PrecedesSome};
+ghost use Rattle.spectro_solve.specs.Fresh.{AreFresh, KeepsAt};
 ghost use Rattle.spectro_solve.specs.Solving.{GoesOn, IsAfter, IsExplored, IsArenaOf};
 
-use crate::evaluation::{Work, evaluate_into};
+use crate::evaluation::Work;
+use crate::fresh::evaluate_fresh;
 use crate::marks::Marks;
 use crate::steps::Steps;
 use crate::table::Table;
@@ -98,11 +100,12 @@ impl Table {
     {
         let mut work = Work::new(alloc);
         let mut made = Antichain::new(alloc);
+        let mut fresh = Marks::all(alloc, arena.pair_count())?;
         for _ in 0..arena.pair_count() + 1 {
             if marks.numbers().is_empty() {
                 return Ok(());
             }
-            self.run_generation(arena, marks, &mut work, &mut made, steps)?;
+            self.run_generation(arena, marks, &mut fresh, &mut work, &mut made, steps)?;
         }
         Ok(())
     }
@@ -113,6 +116,7 @@ impl Table {
         &mut self,
         arena: &Arena,
         marks: &mut Marks,
+        fresh: &mut Marks,
         work: &mut Work,
         made: &mut Antichain,
         steps: &mut Steps<L>,
@@ -120,25 +124,40 @@ impl Table {
         requires source { IsExplored arena.now }
         requires rows { length self.old.rows ≡ length arena.now.pairs }
         requires marks { length marks.old ≡ length arena.now.pairs }
+        requires fresh { length fresh.old ≡ length arena.now.pairs }
+        requires kept { (k : ℕ) → KeepsAt arena.now self.old.rows fresh.old k }
         requires room { HaveRoom self.old.rows }
         requires generations { self.old.generations + 1 < 2 ^ 32 }
         requires evaluations { self.old.evaluations + length marks.old < 2 ^ 64 }
         ensures rows { OnOk result (length self.new.rows ≡ length arena.now.pairs) }
         ensures marks { OnOk result (length marks.new ≡ length arena.now.pairs) }
         ensures next { OnOk result (FromEach arena.now (λ system weighing. GoesOn weighing system arena.now.pairs self.old marks.old self.new marks.new)) }
+        ensures fresh { OnOk result (length fresh.new ≡ length arena.now.pairs) }
+        ensures changed { OnOk result (FromEach arena.now (λ system weighing.
+            (n : ℕ) → IsAfter weighing system arena.now.pairs n self.old marks.old → AreFresh weighing system arena.now.pairs (suc n) fresh.new)) }
         ensures evaluations { OnOk result (self.new.evaluations ≡ self.old.evaluations + count_marked marks.old) }
         ensures steps { OnOk result (steps.new ≡ steps.old + count_marked marks.old) }
         ensures bound { steps.new ≤ steps.old + count_marked marks.old }
     {
         marks.sort();
-        let changes = evaluate_marked(arena, &self.lists, marks.numbers(), work, made, steps)?;
+        let changes = evaluate_marked(
+            arena,
+            &self.lists,
+            fresh,
+            marks.numbers(),
+            work,
+            made,
+            steps,
+        )?;
         self.evaluations += marks.numbers().len() as u64;
         marks.clear();
+        fresh.clear();
         if changes.is_empty() {
             return Ok(());
         }
         self.generations += 1;
         mark_predecessors(arena, &changes, marks)?;
+        mark_changed(&changes, fresh)?;
         put_in(&mut self.lists, changes);
         Ok(())
     }
@@ -148,6 +167,7 @@ impl Table {
 fn evaluate_marked<L: Ledger>(
     arena: &Arena,
     lists: &Vec<Antichain>,
+    fresh: &Marks,
     numbers: &[u32],
     work: &mut Work,
     made: &mut Antichain,
@@ -156,13 +176,15 @@ fn evaluate_marked<L: Ledger>(
     requires rows { length lists.now.items ≡ length arena.now.pairs }
     requires numbers { (k : ℕ) → Contains numbers.now k → k < length arena.now.pairs }
     requires room { HaveRoom lists.now.items }
+    requires fresh { length fresh.now ≡ length arena.now.pairs }
+    requires kept { (k : ℕ) → KeepsAt arena.now lists.now.items fresh.now k }
     ensures changes { IfOk result (λ changes. AreChanges arena.now lists.now.items numbers.now changes.items) }
     ensures steps { OnOk result (steps.new ≡ steps.old + length numbers.now) }
     ensures bound { steps.new ≤ steps.old + length numbers.now }
 {
     let mut changes = Vec::new(*lists.allocator());
     for k in numbers {
-        evaluate_one(arena, lists, *k, work, made, &mut changes, steps)?;
+        evaluate_one(arena, lists, fresh, *k, work, made, &mut changes, steps)?;
     }
     Ok(changes)
 }
@@ -171,6 +193,7 @@ fn evaluate_marked<L: Ledger>(
 fn evaluate_one<L: Ledger>(
     arena: &Arena,
     lists: &[Antichain],
+    fresh: &Marks,
     k: u32,
     work: &mut Work,
     made: &mut Antichain,
@@ -180,10 +203,12 @@ fn evaluate_one<L: Ledger>(
     requires pair { k < length arena.now.pairs }
     requires rows { length lists.now ≡ length arena.now.pairs }
     requires room { HaveRoom lists.now }
+    requires fresh { length fresh.now ≡ length arena.now.pairs }
+    requires kept { KeepsAt arena.now lists.now fresh.now k }
     ensures changes { OnOk result (HasEvaluated arena.now lists.now k changes.old.items changes.new.items) }
     ensures steps { steps.new ≡ steps.old + 1 }
 {
-    evaluate_into(arena, lists, k, work, made, steps)?;
+    evaluate_fresh(arena, lists, fresh, k, work, made, steps)?;
     if made.is_same(&lists[k as usize]) {
         return Ok(());
     }
@@ -203,6 +228,18 @@ fn mark_predecessors(arena: &Arena, changes: &[Change], marks: &mut Marks) -> Re
 {
     for change in changes {
         marks.mark_all(arena.preds(change.pair))?;
+    }
+    Ok(())
+}
+
+// Marks the pairs whose lists changed.
+fn mark_changed(changes: &[Change], fresh: &mut Marks) -> Result<(), AllocError>
+    requires { AreWithin (length fresh.old) changes.now }
+    ensures len { OnOk result (length fresh.new ≡ length fresh.old) }
+    ensures marked { OnOk result ((k : ℕ) → IsMarked fresh.new k ↔ IsMarked fresh.old k ⊎ HasChange changes.now k) }
+{
+    for change in changes {
+        fresh.mark(change.pair)?;
     }
     Ok(())
 }

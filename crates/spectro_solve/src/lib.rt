@@ -4,6 +4,7 @@
 mod choices;
 mod clauses;
 mod evaluation;
+mod fresh;
 mod generations;
 mod marks;
 mod observations;

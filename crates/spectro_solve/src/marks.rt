@@ -1,4 +1,4 @@
-ghost use Rattle.std.specs.Prelude.{◌≡◌, ◌<◌, ◌↔◌, ◌⊎◌, ℕ, true, false, length, replicate, set, Contains, IfOk, OnOk, OnErr};
+ghost use Rattle.std.specs.Prelude.{◌≡◌, ◌<◌, ◌↔◌, ◌⊎◌, ℕ, true, false, length, replicate, set, Contains, IsTrue, IfOk, OnOk, OnErr};
 ghost use Rattle.spectro_solve.specs.Marks.{count_marked, IsMarked};
 
 use std::alloc::{AllocError, Global};
@@ -41,6 +41,14 @@ impl Marks {
         ensures count { length result.now ≡ count_marked self.now }
     {
         self.numbers.as_slice()
+    }
+
+    /// Whether pair `k` is marked.
+    pub(crate) fn is_marked(&self, k: u32) -> bool
+        requires { k < length self.now }
+        ensures { IsTrue result ↔ IsMarked self.now k }
+    {
+        self.flags[k as usize]
     }
 
     /// Puts the numbers in rising order, so that a generation goes over the table in one direction.

@@ -9,7 +9,7 @@ use Rattle.spectro_solve.specs.Marks.{IsMarked, count_marked}
 use Rattle.spectro_solve.specs.Tables.{Solved}
 use Rattle.spectro_solve.proofs.Changing.{no-members, put-none, precedes-none, some-member}
 use Rattle.spectro_solve.proofs.Marked.{marked-below, never-marked, written-back}
-use Rattle.spectro_solve.proofs.Generating.{goes-on-changed, goes-on-still}
+use Rattle.spectro_solve.proofs.Generating.{fresh-after, goes-on-changed, goes-on-still}
 use Rattle.spectro_solve.proofs.table.Table.run_generation.Goals as goal
 
 pub evaluate_marked-requires-clause-numbers : goal.evaluate_marked-requires-clause-numbers
@@ -76,3 +76,34 @@ returns-clause-next g c system weighing starts source n before =
       );
       evaluations = omega (arith, ap (λ (table : Solved). table.evaluations) c.self.view_is, c.numbers.ensures.count, c.numbers-2.ensures.count);
     }) before some.0.pair some.0.list some.1 (ap (λ (table : Solved). table.generations + 1) c.self.view_is)
+
+pub returns-then-is_empty-clause-changed : goal.returns-then-is_empty-clause-changed
+returns-then-is_empty-clause-changed g c system weighing starts source n before =
+    let none = no-members c.in_ok-changes.changes.items (vec_len c.in_ok-changes.changes) (omega arith) (sym c.if-is_empty.ensures) in
+    fresh-after weighing system starts c.args.arena.now source n c.args.self.now.rows c.args.marks.now c.numbers.result.now c.in_ok-changes.changes.items
+    before.rows before.marks (λ k. subst (λ flags. Contains c.numbers.result.now k ↔ IsMarked flags k) c.sort.ensures (c.numbers.ensures.members k))
+    (subst (λ (rows : List (List Price)). AreChanges c.args.arena.now rows c.numbers.result.now c.in_ok-changes.changes.items)
+    (ap (λ (table : Solved). table.rows) c.self.view_is) c.in_ok-changes.ensures.changes) c.clear-2.new.self
+    (λ k (list, change). absurd (Contains-none _ (subst (λ changes. Changes changes k list) none change)))
+
+pub mark_changed-requires : goal.mark_changed-requires
+mark_changed-requires g c k list change =
+    let below = marked-below c.sort.new.self k ((c.numbers.ensures.members k).0
+    (c.in_ok-changes.ensures.changes.within k list (subst (λ changes. Changes changes k list) c.deref-2.ensures.value change))) in
+    omega (
+      arith,
+      below,
+      ap {B = ℕ} length c.sort.ensures,
+      c.requires.marks,
+      c.requires.fresh,
+      ap {B = ℕ} length c.clear-2.ensures,
+      length-replicate (length c.args.fresh.now) false,
+    )
+
+pub returns-clause-changed : goal.returns-clause-changed
+returns-clause-changed g c system weighing starts source n before =
+    fresh-after weighing system starts c.args.arena.now source n c.args.self.now.rows c.args.marks.now c.numbers.result.now c.in_ok-changes.changes.items
+    before.rows before.marks (λ k. subst (λ flags. Contains c.numbers.result.now k ↔ IsMarked flags k) c.sort.ensures (c.numbers.ensures.members k))
+    (subst (λ (rows : List (List Price)). AreChanges c.args.arena.now rows c.numbers.result.now c.in_ok-changes.changes.items)
+    (ap (λ (table : Solved). table.rows) c.self.view_is) c.in_ok-changes.ensures.changes) c.mark_changed.new.fresh
+    (λ k (list, change). (c.in_ok-mark_changed.ensures.marked k).1 (inr (list, subst (λ changes. Changes changes k list) (sym c.deref-2.ensures.value) change)))

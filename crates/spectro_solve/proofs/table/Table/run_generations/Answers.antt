@@ -1,16 +1,25 @@
-use Rattle.std.proofs.Common.{ℕ, ◌≡◌, ◌≤◌, ◌+◌, ◌*◌, ◌-◌, suc, refl, length, Contains, sym, subst, arith}
+use Rattle.std.proofs.Common.{ℕ, ◌≡◌, ◌≤◌, ◌+◌, ◌*◌, ◌-◌, ◌∙◌, suc, true, false, refl, length, Contains, ap, sym, subst, arith}
 use Rattle.std.proofs.lemmas.Nat.{mul-le}
 use Rattle.std.proofs.lemmas.List.Sums.{count_by-le-length}
+use Rattle.std.proofs.lemmas.List.{get_or-replicate, length-replicate}
+use Rattle.spectro_theory.proofs.Places.{stands-below}
 use Rattle.spectro_spec.proofs.Members.{Contains-none}
 use Rattle.spectro_solve.specs.Marks.{IsMarked}
 use Rattle.spectro_solve.proofs.Changing.{no-members}
+use Rattle.spectro_solve.specs.Fresh.{AreFresh}
 use Rattle.spectro_solve.specs.Solving.{IsAfter}
+use Rattle.spectro_solve.proofs.FreshKept.{kept-after}
 use Rattle.spectro_solve.proofs.Settling.{bounded, product-low, stays-still}
 use Rattle.spectro_solve.proofs.table.Table.run_generations.Goals as goal
 
 pub loop-init : goal.loop-init
 loop-init g c = record {
   after = c.requires.start;
+  many = ap length c.in_ok-fresh.ensures ∙ length-replicate c.pair_count.result true ∙ c.pair_count.ensures.value;
+  fresh = λ system weighing starts source j y there.
+      subst (λ flags. IsMarked flags j) (sym c.in_ok-fresh.ensures)
+      (get_or-replicate c.pair_count.result j true false
+      (let below = stands-below c.args.arena.now.pairs j y there in omega (arith, below, c.pair_count.ensures.value)));
   steps = (
       let none = (bounded c.args.arena.now c.requires.source 0 c.args.self.now c.args.marks.now c.requires.start).evaluations in
       omega (arith, none));
@@ -75,6 +84,11 @@ loop-preserved g c = record {
       let same : suc c.loop.counter ≡ c.loop.counter + 1 = omega arith in
       subst (λ n. IsAfter weighing system c.args.arena.now.pairs n c.run_generation.new.self c.run_generation.new.marks) same
       (c.in_ok-run_generation.ensures.next system weighing starts source c.loop.counter (c.loop.invariant.after system weighing starts source));
+  many = c.in_ok-run_generation.ensures.fresh;
+  fresh = λ system weighing starts source.
+      let same : suc c.loop.counter ≡ c.loop.counter + 1 = omega arith in
+      subst (λ n. AreFresh weighing system c.args.arena.now.pairs n c.run_generation.new.fresh) same
+      (c.in_ok-run_generation.ensures.changed system weighing starts source c.loop.counter (c.loop.invariant.after system weighing starts source));
   steps = omega (arith, c.in_ok-run_generation.ensures.steps, c.in_ok-run_generation.ensures.evaluations, c.loop.invariant.steps);
 }
 
@@ -87,3 +101,8 @@ pub returns-clause-bound : goal.returns-clause-bound
 returns-clause-bound g c =
     let low = (bounded c.args.arena.now c.requires.source c.loop.counter c.loop.self c.loop.marks c.loop.invariant.after).evaluations in
     omega (arith, low, c.loop.invariant.steps, product-low c.loop.counter (length c.args.arena.now.pairs) (omega arith))
+
+pub run_generation-requires-clause-kept : goal.run_generation-requires-clause-kept
+run_generation-requires-clause-kept g c k system weighing starts source x here =
+    kept-after weighing system starts c.args.arena.now source c.loop.self.rows c.loop.fresh c.loop.counter
+    (c.loop.invariant.after system weighing starts source).rows (c.loop.invariant.fresh system weighing starts source) k x here

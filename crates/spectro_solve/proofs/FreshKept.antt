@@ -1,0 +1,167 @@
+-- After each generation a pair's list has what the followers make whose lists did not change in it.
+use Rattle.std.proofs.Common.{ℕ, zero, suc, ◌≡◌, ◌≢◌, inl, inr, List, [], ◌∷◌, Bool, Contains, refl, sym, ap, subst, ◌∙◌}
+use Rattle.spectro_spec.specs.System.{System, post}
+use Rattle.spectro_spec.specs.Weighing.{Weighing, weight_of}
+use Rattle.spectro_spec.specs.Price.{Price, IsAtMost}
+use Rattle.spectro_spec.specs.LeastPrices.{Covers}
+use Rattle.spectro_spec.proofs.Members.{Contains-cases, Contains-none}
+use Rattle.spectro_game.specs.Update.{inverse, observe, to_negative, to_other}
+use Rattle.spectro_game.specs.Divisions.{IsDivided, nothing, to_left}
+use Rattle.spectro_game.specs.Pairs.{Pair, IsClosed, IsOneOf, IsFollower}
+use Rattle.spectro_game.specs.Reached.{StandsAt}
+use Rattle.spectro_game.specs.BackwardStep.{Affords, AffordsClause, AffordsSplit}
+use Rattle.spectro_game.specs.Generations.{Table, generation, members_of}
+use Rattle.spectro_game.specs.Rows.{generation_rows, listed_at}
+use Rattle.spectro_theory.proofs.BackwardSteps.{affords-backward_step, backward_step-affords, generation-AreGenerations}
+use Rattle.spectro_theory.proofs.Divided.{Contains-right, IsDivided-all_right, divided_at}
+use Rattle.spectro_theory.proofs.Followers.{follows_subset, follows_swapped}
+use Rattle.spectro_theory.proofs.Locality.{Affords-grows}
+use Rattle.spectro_theory.proofs.MappedPlaces.{map-at}
+use Rattle.spectro_theory.proofs.Places.{Contains-stands, StandsIn-member}
+use Rattle.spectro_theory.proofs.PriceOrder.{IsAtMost-refl}
+use Rattle.spectro_theory.proofs.Ranks.{grows}
+use Rattle.spectro_theory.proofs.ReachedPairs.{reached-closed}
+use Rattle.spectro_theory.proofs.RowsOfGenerations.{listed_at-generation}
+use Rattle.spectro_rows.specs.Rows.{row_at}
+use Rattle.spectro_pairs.specs.Explored.{Explored, IsExploredFrom, start_pairs}
+use Rattle.spectro_solve.specs.Added.{IsMadeBy}
+use Rattle.spectro_solve.specs.Fresh.{AreFresh, IsKept, IsSplitFollower}
+use Rattle.spectro_solve.specs.Marks.{IsMarked}
+
+-- all members on the left
+all-left : (qs : List ℕ) → IsDivided qs qs []
+all-left [] = nothing
+all-left (q ∷ qs) = to_left (all-left qs)
+
+-- what a split affords rests on the lists of the pairs that follow by splits
+split-same : (table other : Table) (x : Pair) (b : Price)
+    → ((y : Pair) → IsSplitFollower x y → table y.state y.set ≡ other y.state y.set)
+    → AffordsSplit (members_of table) x.state x.set b → AffordsSplit (members_of other) x.state x.set b
+split-same table other x b same (left, right, divided, deepest, others) = (
+  left,
+  right,
+  divided,
+  (λ some. let (f, member, below) = deepest some in
+      (f, subst (λ es. Contains es f) (same (record { state = x.state; set = left }) (inl (refl, some, (right, divided)))) member, below)),
+  λ q among. clause q (Contains-right divided q among) (others q among),
+)
+  where
+    clause : (q : ℕ) → Contains x.set q → AffordsClause (members_of table) x.state q b → AffordsClause (members_of other) x.state q b
+    clause q member (inl (f, listed, below)) =
+        let one = divided_at x.set q member in
+        inl (f, subst (λ es. Contains es f) (same (record { state = x.state; set = q ∷ [] }) (inl (refl, (λ none. cc), (one.0, one.1)))) listed, below)
+    clause q member (inr (apart, (f, listed, below))) =
+        inr (apart, (f, subst (λ es. Contains es f) (same (record { state = q; set = x.state ∷ [] }) (inr (member, apart, refl))) listed, below))
+
+-- a pair that follows by a split is a follower
+split-follows : (system : System) (x y : Pair) → IsSplitFollower x y → IsFollower system x.state x.set y.state y.set
+split-follows system x y (inl (state, some, (right, divided))) =
+    subst (λ p. IsFollower system x.state x.set p y.set) (sym state) (follows_subset system x.state x.set y.set right some divided)
+split-follows system x y (inr (member, apart, alone)) =
+    subst (λ s. IsFollower system x.state x.set y.state s) (sym alone) (follows_swapped system x.state x.set y.state member apart)
+
+module _ (weighing : Weighing) (system : System) (starts : List (ℕ × ℕ)) (explored : Explored) (source : IsExploredFrom system weighing starts explored)
+    (rows : List (List Price)) (fresh : List Bool) where
+  closed : IsClosed system (IsOneOf explored.pairs)
+  closed = reached-closed system (start_pairs starts) explored.pairs source.reached
+
+  row-at : (n : ℕ) → rows ≡ generation_rows weighing system explored.pairs n → (j : ℕ) (y : Pair) → StandsAt explored.pairs j y
+      → row_at rows j ≡ generation weighing system n y.state y.set
+  unfolding generation_rows
+  row-at n is j y there = map-at (λ (z : Pair). generation weighing system n z.state z.set) explored.pairs rows j y [] is there
+
+  listed : (n : ℕ) → rows ≡ generation_rows weighing system explored.pairs n → (x : Pair) → IsOneOf explored.pairs x.state x.set → (y : Pair)
+      → IsFollower system x.state x.set y.state y.set → listed_at explored.pairs rows y.state y.set ≡ generation weighing system n y.state y.set
+  listed n is x known y follows = ap (λ l. listed_at explored.pairs l y.state y.set) is
+      ∙ listed_at-generation weighing system explored.pairs n y.state y.set (closed x.state x.set y.state y.set known follows)
+
+  number-of : (x y : Pair) → IsOneOf explored.pairs x.state x.set → IsFollower system x.state x.set y.state y.set → (j : ℕ) × StandsAt explored.pairs j y
+  number-of x y known follows = StandsIn-member explored.pairs y (closed x.state x.set y.state y.set known follows)
+
+  -- before the first generation all are fresh, and all lists are empty
+  kept-first : rows ≡ generation_rows weighing system explored.pairs 0 → AreFresh weighing system explored.pairs 0 fresh → (k : ℕ) (x : Pair)
+      → StandsAt explored.pairs k x → IsKept weighing system explored rows fresh k x
+  unfolding generation
+  kept-first is all k x here = record {
+    sound = λ e (f, member, low). absurd (Contains-none f (subst (λ es. Contains es f) (row-at 0 is k x here) member));
+    observed = λ label t j step there stale e made. absurd (stale (all j (record { state = t; set = post system x.set label }) there));
+    turned = λ q j alone apart there stale e made. absurd (stale (all j (record { state = q; set = x.state ∷ [] }) there));
+    split = λ some stale e split. absurd (stale k x here (inl (refl, some, ([], all-left x.set))) (all k x here));
+  }
+
+  module _ (m : ℕ) (is : rows ≡ generation_rows weighing system explored.pairs (suc m)) (others : AreFresh weighing system explored.pairs (suc m) fresh)
+      (k : ℕ) (x : Pair) (here : StandsAt explored.pairs k x) where
+    known : IsOneOf explored.pairs x.state x.set
+    known = Contains-stands explored.pairs x (k, here)
+
+    -- what the generation before affords, the list covers
+    covered : (e : Price) → Affords weighing system (members_of (generation weighing system m)) x.state x.set e → Covers (row_at rows k) e
+    unfolding generation
+    covered e afforded = subst (λ es. Covers es e) (sym (row-at (suc m) is k x here))
+        (affords-backward_step weighing system (generation weighing system m) x.state x.set e afforded)
+
+    -- what is not fresh is as it was before
+    before-is : (j : ℕ) (y : Pair) → StandsAt explored.pairs j y → ¬ IsMarked fresh j → row_at rows j ≡ generation weighing system m y.state y.set
+    before-is j y there stale = row-at (suc m) is j y there ∙ others j y there stale
+
+    sound-later : (e : Price) → Covers (row_at rows k) e → Affords weighing system (members_of (listed_at explored.pairs rows)) x.state x.set e
+    unfolding generation
+    sound-later e own =
+        let made = subst (λ es. Covers es e) (row-at (suc m) is k x here) own in
+        Affords-grows weighing system (members_of (generation weighing system m)) (members_of (listed_at explored.pairs rows)) x.state x.set
+        (λ p qs f follows member.
+        let (g, more, low) =
+        grows weighing system (generation weighing system) (generation-AreGenerations weighing system) m p qs f (f, member, IsAtMost-refl f) in
+        (g, subst (λ es. Contains es g) (sym (listed (suc m) is x known (record { state = p; set = qs }) follows)) more, low)) e
+        (backward_step-affords weighing system (generation weighing system m) x.state x.set e made)
+
+    kept-later : IsKept weighing system explored rows fresh k x
+    kept-later = record {
+      sound = sound-later;
+      observed = λ label t j step there stale e made.
+          covered e (inl (
+            label,
+            t,
+            step,
+            subst (λ es. IsMadeBy (observe (weight_of weighing label)) es e)
+                (before-is j (record { state = t; set = post system x.set label }) there stale) made,
+          ));
+      turned = λ q j alone apart there stale e (f, member, low).
+          covered e (inr (
+            inverse to_other (inverse to_negative f),
+            (
+              [],
+              x.set,
+              IsDivided-all_right x.set,
+              (λ some. absurd (some refl)),
+              λ r among. elim (Contains-cases q [] r (subst (λ s. Contains s r) alone among)) [
+                | inl same ↦ inr (subst (λ z. (x.state ≢ z) × ((g : Price) × Contains (generation weighing system m z (x.state ∷ [])) g
+                    × IsAtMost (inverse to_other (inverse to_negative g)) (inverse to_other (inverse to_negative f)))) same (
+                      apart,
+                      (
+                        f,
+                        subst (λ es. Contains es f) (before-is j (record { state = q; set = x.state ∷ [] }) there stale) member,
+                        IsAtMost-refl (inverse to_other (inverse to_negative f)),
+                      ),
+                    ))
+                | inr none ↦ absurd (Contains-none r none)
+              ],
+            ),
+            low,
+          ));
+      split = λ some stale e (b, split, low).
+          covered e (inr (
+            b,
+            split-same (listed_at explored.pairs rows) (generation weighing system m) x b
+                (λ y by. let follows = split-follows system x y by in
+                let number = number-of x y known follows in
+                listed (suc m) is x known y follows ∙ sym (row-at (suc m) is number.0 y number.1)
+                ∙ before-is number.0 y number.1 (stale number.0 y number.1 by)) split,
+            low,
+          ));
+    }
+
+  pub kept-after : (n : ℕ) → rows ≡ generation_rows weighing system explored.pairs n → AreFresh weighing system explored.pairs n fresh → (k : ℕ) (x : Pair)
+      → StandsAt explored.pairs k x → IsKept weighing system explored rows fresh k x
+  kept-after zero is fresh-ones k x here = kept-first is fresh-ones k x here
+  kept-after (suc m) is fresh-ones k x here = kept-later m is fresh-ones k x here
