@@ -43,22 +43,22 @@ pub(crate) struct Exploration {
 }
 
 impl Exploration {
-    /// No pairs of the system.
-    pub(crate) fn new(alloc: Global, lts: &Lts, limit: u32) -> Result<Exploration, AllocError>
+    /// No pairs of the system. It takes no memory.
+    pub(crate) fn new(alloc: Global, lts: &Lts, limit: u32) -> Exploration
         requires { limit ≤ MAX_LIMIT }
-        ensures pairs { IfOk result (λ exploration. exploration.pairs ≡ record { states = lts.now.states; limit = limit; sets = []; pairs = [] }) }
-        ensures followers { IfOk result (λ exploration. exploration.followers ≡ record { rows = []; last = [] }) }
-        ensures labels { IfOk result (λ exploration. exploration.labels ≡ record { rows = []; last = [] }) }
-        ensures posts { IfOk result (ArePosts lts.now) }
-        ensures lattices { IfOk result (λ exploration. AreLattices exploration.pairs.pairs exploration.lattices) }
+        ensures pairs { result.pairs ≡ record { states = lts.now.states; limit = limit; sets = []; pairs = [] } }
+        ensures followers { result.followers ≡ record { rows = []; last = [] } }
+        ensures labels { result.labels ≡ record { rows = []; last = [] } }
+        ensures posts { ArePosts lts.now result }
+        ensures lattices { AreLattices result.pairs.pairs result.lattices }
     {
-        Ok(Exploration {
-            pairs: Pairs::new(alloc, lts.states(), limit)?,
+        Exploration {
+            pairs: Pairs::new(alloc, lts.states(), limit),
             followers: Rows::new(alloc),
             labels: Rows::new(alloc),
-            posts: Known::new(alloc, lts.label_count(), limit as usize)?,
+            posts: Known::new(alloc, lts.label_count(), limit as usize),
             lattices: Lattices::new(alloc),
-        })
+        }
     }
 
     /// Reaches the starts.

@@ -1,26 +1,34 @@
-ghost use Rattle.std.specs.Prelude.{ℕ, ◌⊎◌, IfSome, ◌≡◌, ◌<◌, ◌+◌, ◌*◌, IfOk};
+ghost use Rattle.std.specs.Prelude.{ℕ, ◌⊎◌, IfSome, ◌≡◌, ◌<◌, ◌+◌, ◌*◌};
 ghost use Rattle.spectro_pairs.specs.Known.{Knows};
 
-use std::alloc::{AllocError, Global};
+use std::alloc::Global;
 
-/// Numbers by row and column, as far as they were put down: what was looked up once is read the next time. It has so many
-/// places, of which the first rows take theirs; what has no place is not kept.
+// How many places are taken first: a page of memory.
+const FIRST: usize = 1_024;
+
+/// Numbers by row and column, as far as they were put down: what was looked up once is read the next time. It grows as
+/// numbers are put down, up to `most` places, of which the first rows take theirs. What has no place is not kept, and
+/// neither is what finds no memory for its place: then it is looked up again.
 ///
 /// A place has 1 more than its number, and 0 where there is none.
 #[derive(Drop)]
 pub(crate) struct Known {
     width: u32,
+    most: usize,
     places: Vec<u32>,
 }
 
 impl Known {
-    /// No numbers, with rows of so many columns.
-    pub(crate) fn new(alloc: Global, width: u32, places: usize) -> Result<Known, AllocError>
-        ensures nothing { IfOk result (λ known. (row column n : ℕ) → Knows known row column n → ⊥) }
-        ensures width { IfOk result (λ known. known.width ≡ width) }
+    /// No numbers, with rows of so many columns and at most so many places. It takes no memory.
+    pub(crate) fn new(alloc: Global, width: u32, most: usize) -> Known
+        ensures nothing { (row column n : ℕ) → Knows result row column n → ⊥ }
+        ensures width { result.width ≡ width }
     {
-        let places = vec![in alloc; 0u32; places]?;
-        Ok(Known { width, places })
+        Known {
+            width,
+            most,
+            places: Vec::new(alloc),
+        }
     }
 
     /// The number of the row and the column, if it is kept.
@@ -39,8 +47,20 @@ impl Known {
         ensures width { self.new.width ≡ self.old.width }
     {
         let place = self.place(row, column);
+        self.make_room(place);
         if place < self.places.len() {
             self.places[place] = n + 1;
+        }
+    }
+
+    // Takes room for the place, and for as many again, if it is one of those that there may be and there is memory.
+    fn make_room(&mut self, place: usize)
+        ensures knows { (p q m : ℕ) → Knows self.new p q m → Knows self.old p q m }
+        ensures width { self.new.width ≡ self.old.width }
+    {
+        if self.places.len() <= place && place < self.most {
+            let count = place.saturating_mul(2).max(FIRST).min(self.most);
+            let _ = self.places.resize(count, 0);
         }
     }
 

@@ -53,22 +53,20 @@ impl Model for Pairs {
 }
 
 impl Pairs {
-    /// No pairs, of a system with so many states.
-    pub(crate) fn new(alloc: Global, states: u32, limit: u32) -> Result<Pairs, AllocError>
+    /// No pairs, of a system with so many states. It takes no memory.
+    pub(crate) fn new(alloc: Global, states: u32, limit: u32) -> Pairs
         requires { limit ≤ MAX_LIMIT }
-        ensures { IfOk result (λ pairs. pairs ≡ record { states = states; limit = limit; sets = []; pairs = [] }) }
+        ensures { result ≡ record { states = states; limit = limit; sets = []; pairs = [] } }
     {
-        let known = Known::new(alloc, states, limit as usize)?;
-        let singletons = Known::new(alloc, 1, states as usize)?;
-        Ok(Pairs {
+        Pairs {
             states,
             limit,
             size: 0,
             sets: IndexSet::new(alloc),
             keys: IndexSet::new(alloc),
-            known,
-            singletons,
-        })
+            known: Known::new(alloc, states, limit as usize),
+            singletons: Known::new(alloc, 1, states as usize),
+        }
     }
 
     /// How many pairs there are.

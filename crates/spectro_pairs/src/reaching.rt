@@ -30,7 +30,7 @@ pub fn explore(
     ensures limit { IfErr result (λ e. (pairs : List Pair) → AreReachedPairs lts.now (start_pairs starts.now) pairs → IsPastLimit e limit (size pairs)) }
 {
     let weights = label_weights(alloc, lts, weights)?;
-    let mut exploration = Exploration::new(alloc, lts, limit)?;
+    let mut exploration = Exploration::new(alloc, lts, limit);
     exploration.start(starts)?;
     let mut k = 0;
     while k < exploration.pairs.len() {

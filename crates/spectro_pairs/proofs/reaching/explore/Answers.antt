@@ -15,18 +15,18 @@ pub returns-in_err-start-clause-limit : goal.returns-in_err-start-clause-limit
 returns-in_err-start-clause-limit c =
     let p = err_from_is_err_and c.from_residual-in_err-start.result c.from_residual-in_err-start.ensures.1 in
     rw (p.1, p.2)
-    (past-starts c.args.lts.now c.args.starts.now c.in_err-start.field-0.0 c.args.limit c.args.lts.now.states c.in_ok-exploration.exploration
-    c.in_ok-exploration.ensures.pairs c.in_err-start.ensures.limit)
+    (past-starts c.args.lts.now c.args.starts.now c.in_err-start.field-0.0 c.args.limit c.args.lts.now.states c.new-exploration.result
+    c.new-exploration.ensures.pairs c.in_err-start.ensures.limit)
 
 pub loop-k-init : goal.loop-k-init
 loop-k-init c =
     record {
       explored =
-          explored-none c.args.lts.now c.args.starts.now c.in_ok-exploration.exploration c.start.new.self c.args.limit c.in_ok-exploration.ensures.pairs
-          c.in_ok-exploration.ensures.followers c.in_ok-exploration.ensures.labels
-          c.in_ok-start.ensures.ok (c.in_ok-start.ensures.posts c.args.lts.now c.in_ok-exploration.ensures.posts) c.in_ok-exploration.ensures.lattices;
+          explored-none c.args.lts.now c.args.starts.now c.new-exploration.result c.start.new.self c.args.limit c.new-exploration.ensures.pairs
+          c.new-exploration.ensures.followers c.new-exploration.ensures.labels
+          c.in_ok-start.ensures.ok (c.in_ok-start.ensures.posts c.args.lts.now c.new-exploration.ensures.posts) c.new-exploration.ensures.lattices;
       within = omega arith;
-      limit = c.in_ok-start.ensures.ok.limit ∙ ap (λ (p : Interned). p.limit) c.in_ok-exploration.ensures.pairs;
+      limit = c.in_ok-start.ensures.ok.limit ∙ ap (λ (p : Interned). p.limit) c.new-exploration.ensures.pairs;
     }
 
 pub expand-requires-clause-states : goal.expand-requires-clause-states

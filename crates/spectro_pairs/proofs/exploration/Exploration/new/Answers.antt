@@ -4,6 +4,6 @@ use Rattle.spectro_pairs.proofs.exploration.Exploration.new.Goals as goal
 
 pub returns-clause-posts : goal.returns-clause-posts
 returns-clause-posts c = record {
-  wide = c.in_ok-new-2.ensures.width ∙ c.label_count.ensures.value;
-  exact = λ q label_no n knows. absurd (c.in_ok-new-2.ensures.nothing q label_no n knows);
+  wide = c.new-4.ensures.width ∙ c.label_count.ensures.value;
+  exact = λ q label_no n knows. absurd (c.new-4.ensures.nothing q label_no n knows);
 }
