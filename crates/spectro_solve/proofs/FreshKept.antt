@@ -4,7 +4,7 @@ use Rattle.spectro_spec.specs.System.{System, post}
 use Rattle.spectro_spec.specs.Weighing.{Weighing, weight_of}
 use Rattle.spectro_spec.specs.Price.{Price, IsAtMost}
 use Rattle.spectro_spec.specs.LeastPrices.{Covers}
-use Rattle.spectro_spec.proofs.Members.{Contains-cases, Contains-none}
+use Rattle.spectro_spec.proofs.Members.{Contains-cases, Contains-first, Contains-none}
 use Rattle.spectro_game.specs.Update.{inverse, observe, to_negative, to_other}
 use Rattle.spectro_game.specs.Divisions.{IsDivided, nothing, to_left}
 use Rattle.spectro_game.specs.Pairs.{Pair, IsClosed, IsOneOf, IsFollower}
@@ -13,7 +13,7 @@ use Rattle.spectro_game.specs.BackwardStep.{Affords, AffordsClause, AffordsSplit
 use Rattle.spectro_game.specs.Generations.{Table, generation, members_of}
 use Rattle.spectro_game.specs.Rows.{generation_rows, listed_at}
 use Rattle.spectro_theory.proofs.BackwardSteps.{affords-backward_step, backward_step-affords, generation-AreGenerations}
-use Rattle.spectro_theory.proofs.Divided.{Contains-right, IsDivided-all_right, divided_at}
+use Rattle.spectro_theory.proofs.Divided.{Contains-divided_cases, Contains-right, IsDivided-all_right, divided_at}
 use Rattle.spectro_theory.proofs.Followers.{follows_subset, follows_swapped}
 use Rattle.spectro_theory.proofs.Locality.{Affords-grows}
 use Rattle.spectro_theory.proofs.MappedPlaces.{map-at}
@@ -53,6 +53,17 @@ split-same table other x b same (left, right, divided, deepest, others) = (
     clause q member (inr (apart, (f, listed, below))) =
         inr (apart, (f, subst (λ es. Contains es f) (same (record { state = q; set = x.state ∷ [] }) (inr (member, apart, refl))) listed, below))
 
+-- lists that are all empty afford no split of a set that is not empty
+no-split : (p : ℕ) (qs : List ℕ) (b : Price) → qs ≢ [] → AffordsSplit (members_of (λ q rs. [])) p qs b → ⊥
+no-split p [] b some split = some refl
+no-split p (q ∷ qs) b some (left, right, divided, deepest, others) = elim (Contains-divided_cases divided q (Contains-first q qs)) [
+  | inl member ↦ let (f, listed, low) = deepest (λ none. Contains-none q (subst (λ l. Contains l q) none member)) in Contains-none f listed
+  | inr among ↦ elim (others q among) [
+    | inl (f, member, low) ↦ Contains-none f member
+    | inr (apart, (f, member, low)) ↦ Contains-none f member
+  ]
+]
+
 -- a pair that follows by a split is a follower
 split-follows : (system : System) (x y : Pair) → IsSplitFollower x y → IsFollower system x.state x.set y.state y.set
 split-follows system x y (inl (state, some, (right, divided))) =
@@ -78,16 +89,23 @@ module _ (weighing : Weighing) (system : System) (starts : List (ℕ × ℕ)) (e
   number-of : (x y : Pair) → IsOneOf explored.pairs x.state x.set → IsFollower system x.state x.set y.state y.set → (j : ℕ) × StandsAt explored.pairs j y
   number-of x y known follows = StandsIn-member explored.pairs y (closed x.state x.set y.state y.set known follows)
 
-  -- before the first generation all are fresh, and all lists are empty
-  kept-first : rows ≡ generation_rows weighing system explored.pairs 0 → AreFresh weighing system explored.pairs 0 fresh → (k : ℕ) (x : Pair)
-      → StandsAt explored.pairs k x → IsKept weighing system explored rows fresh k x
+  -- before the first generation all lists are empty, so that nothing is made of them
+  kept-first : rows ≡ generation_rows weighing system explored.pairs 0 → (k : ℕ) (x : Pair) → StandsAt explored.pairs k x
+      → IsKept weighing system explored rows fresh k x
   unfolding generation
-  kept-first is all k x here = record {
-    sound = λ e (f, member, low). absurd (Contains-none f (subst (λ es. Contains es f) (row-at 0 is k x here) member));
-    observed = λ label t j step there stale e made. absurd (stale (all j (record { state = t; set = post system x.set label }) there));
-    turned = λ q j alone apart there stale e made. absurd (stale (all j (record { state = q; set = x.state ∷ [] }) there));
-    split = λ some stale e split. absurd (stale k x here (inl (refl, some, ([], all-left x.set))) (all k x here));
+  kept-first is k x here = record {
+    sound = λ e (f, member, low). absurd (empty k x here f member);
+    observed = λ label t j step there stale e (f, member, low). absurd (empty j (record { state = t; set = post system x.set label }) there f member);
+    turned = λ q j alone apart there stale e (f, member, low). absurd (empty j (record { state = q; set = x.state ∷ [] }) there f member);
+    split = λ some stale e (b, split, low). absurd (no-split x.state x.set b some (split-same (listed_at explored.pairs rows) (λ p qs. []) x b
+        (λ y by. nothing-listed y (closed x.state x.set y.state y.set (Contains-stands explored.pairs x (k, here)) (split-follows system x y by))) split));
   }
+    where
+      empty : (j : ℕ) (y : Pair) → StandsAt explored.pairs j y → (f : Price) → Contains (row_at rows j) f → ⊥
+      empty j y there f member = Contains-none f (subst (λ es. Contains es f) (row-at 0 is j y there) member)
+
+      nothing-listed : (y : Pair) → IsOneOf explored.pairs y.state y.set → listed_at explored.pairs rows y.state y.set ≡ []
+      nothing-listed y known = ap (λ l. listed_at explored.pairs l y.state y.set) is ∙ listed_at-generation weighing system explored.pairs 0 y.state y.set known
 
   module _ (m : ℕ) (is : rows ≡ generation_rows weighing system explored.pairs (suc m)) (others : AreFresh weighing system explored.pairs (suc m) fresh)
       (k : ℕ) (x : Pair) (here : StandsAt explored.pairs k x) where
@@ -163,5 +181,5 @@ module _ (weighing : Weighing) (system : System) (starts : List (ℕ × ℕ)) (e
 
   pub kept-after : (n : ℕ) → rows ≡ generation_rows weighing system explored.pairs n → AreFresh weighing system explored.pairs n fresh → (k : ℕ) (x : Pair)
       → StandsAt explored.pairs k x → IsKept weighing system explored rows fresh k x
-  kept-after zero is fresh-ones k x here = kept-first is fresh-ones k x here
+  kept-after zero is fresh-ones k x here = kept-first is k x here
   kept-after (suc m) is fresh-ones k x here = kept-later m is fresh-ones k x here

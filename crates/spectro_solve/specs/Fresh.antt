@@ -1,5 +1,5 @@
 -- Which lists changed in the generation before, and what a pair's list has already of what its followers make.
-use Rattle.std.specs.Prelude.{ℕ, zero, suc, ◌≡◌, ◌≢◌, ◌<◌, ◌≤◌, ◌⊎◌, Bool, List, [], ◌∷◌, length, Contains}
+use Rattle.std.specs.Prelude.{ℕ, ⊤, zero, suc, ◌≡◌, ◌≢◌, ◌<◌, ◌≤◌, ◌⊎◌, Bool, List, [], ◌∷◌, length, Contains}
 use Rattle.spectro_spec.specs.System.{Label, System, HasStep, post}
 use Rattle.spectro_spec.specs.Weighing.{Weighing, weight_of}
 use Rattle.spectro_spec.specs.Price.{Price, IsAtMost}
@@ -84,8 +84,8 @@ AreSplitsAdded explored rows fresh x old new =
     ⊎ (((x.set ≢ []) × HasStaleSplits explored fresh x × (new ≡ old))
     ⊎ IsAdded (AffordsConjunction (listed_at explored.pairs rows) x) old new)
 
--- the flags say which lists generation n changed; before the first all are set
+-- the flags say which lists generation n changed; before the first one all lists are empty, and the flags say nothing
 abbrev pub AreFresh : Weighing → System → List Pair → ℕ → List Bool → Type 0
-AreFresh weighing system pairs zero fresh = (j : ℕ) (y : Pair) → StandsAt pairs j y → IsMarked fresh j
+AreFresh weighing system pairs zero fresh = ⊤
 AreFresh weighing system pairs (suc n) fresh = (j : ℕ) (y : Pair) → StandsAt pairs j y → ¬ IsMarked fresh j
     → generation weighing system (suc n) y.state y.set ≡ generation weighing system n y.state y.set

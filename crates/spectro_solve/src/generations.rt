@@ -100,7 +100,7 @@ impl Table {
     {
         let mut work = Work::new(alloc);
         let mut made = Antichain::new(alloc);
-        let mut fresh = Marks::all(alloc, arena.pair_count())?;
+        let mut fresh = Marks::none(alloc, arena.pair_count())?;
         for _ in 0..arena.pair_count() + 1 {
             if marks.numbers().is_empty() {
                 return Ok(());

@@ -35,6 +35,17 @@ impl Marks {
         Ok(Marks { flags, numbers })
     }
 
+    /// None of so many pairs is marked.
+    pub(crate) fn none(alloc: Global, pairs: u32) -> Result<Marks, AllocError>
+        ensures { IfOk result (λ marks. marks ≡ replicate pairs false) }
+    {
+        let flags = vec![in alloc; false; pairs as usize]?;
+        Ok(Marks {
+            flags,
+            numbers: Vec::new(alloc),
+        })
+    }
+
     /// The numbers of the marked pairs, each once.
     pub(crate) fn numbers(&self) -> &[u32]
         ensures members { (k : ℕ) → Contains result.now k ↔ IsMarked self.now k }

@@ -68,6 +68,9 @@ pub(crate) fn add_split(
         IsAdded (AffordsBy (listed_at arena.now.pairs lists.now) x mask chosen.now) made.old made.new)) }
     ensures grows { OnOk result (Grows made.old made.new) }
 {
+    if chosen.is_empty() {
+        return Ok(());
+    }
     if mask == 0 {
         return add_pulled(made, chosen, Update::Conjoin);
     }

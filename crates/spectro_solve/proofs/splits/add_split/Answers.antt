@@ -1,12 +1,18 @@
-use Rattle.std.proofs.Common.{arith, inl, subst, sym}
+use Rattle.std.proofs.Common.{arith, inl, refl, subst, sym, Contains}
 use Rattle.std.proofs.lemmas.Result.{on_ok_weaker}
+use Rattle.spectro_spec.proofs.Members.{Contains-none}
 use Rattle.spectro_game.specs.Update.{conjoin}
 use Rattle.spectro_game.specs.Rows.{listed_at}
 use Rattle.spectro_solve.specs.Added.{IsAdded, IsJoinedBy, IsMadeBy}
 use Rattle.spectro_solve.specs.Choices.{AffordsBy}
-use Rattle.spectro_solve.proofs.Adding.{added-same}
+use Rattle.spectro_solve.proofs.Adding.{added-nothing, added-same}
 use Rattle.spectro_solve.proofs.SplitPrices.{split-none, split-some}
 use Rattle.spectro_solve.proofs.splits.add_split.Goals as goal
+
+pub returns-then-is_empty-clause-added : goal.returns-then-is_empty-clause-added
+returns-then-is_empty-clause-added c system weighing starts source x here =
+    added-nothing (AffordsBy (listed_at c.args.arena.now.pairs c.args.lists.now) x c.args.mask c.args.chosen.now) c.args.made.now
+    (λ e (b, (f, member, low), left, cost). Contains-none f (subst (λ es. Contains es f) (c.if-is_empty.ensures.0 refl) member))
 
 pub returns-then-mask-eq0-clause-added : goal.returns-then-mask-eq0-clause-added
 returns-then-mask-eq0-clause-added c = on_ok_weaker c.add_pulled.result (λ added system weighing starts source x here.

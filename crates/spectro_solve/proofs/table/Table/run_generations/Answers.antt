@@ -1,8 +1,7 @@
-use Rattle.std.proofs.Common.{ℕ, ◌≡◌, ◌≤◌, ◌+◌, ◌*◌, ◌-◌, ◌∙◌, suc, true, false, refl, length, Contains, ap, sym, subst, arith}
+use Rattle.std.proofs.Common.{ℕ, ◌≡◌, ◌≤◌, ◌+◌, ◌*◌, ◌-◌, ◌∙◌, suc, false, refl, length, Contains, ap, sym, subst, arith}
 use Rattle.std.proofs.lemmas.Nat.{mul-le}
 use Rattle.std.proofs.lemmas.List.Sums.{count_by-le-length}
-use Rattle.std.proofs.lemmas.List.{get_or-replicate, length-replicate}
-use Rattle.spectro_theory.proofs.Places.{stands-below}
+use Rattle.std.proofs.lemmas.List.{length-replicate}
 use Rattle.spectro_spec.proofs.Members.{Contains-none}
 use Rattle.spectro_solve.specs.Marks.{IsMarked}
 use Rattle.spectro_solve.proofs.Changing.{no-members}
@@ -15,11 +14,8 @@ use Rattle.spectro_solve.proofs.table.Table.run_generations.Goals as goal
 pub loop-init : goal.loop-init
 loop-init g c = record {
   after = c.requires.start;
-  many = ap length c.in_ok-fresh.ensures ∙ length-replicate c.pair_count.result true ∙ c.pair_count.ensures.value;
-  fresh = λ system weighing starts source j y there.
-      subst (λ flags. IsMarked flags j) (sym c.in_ok-fresh.ensures)
-      (get_or-replicate c.pair_count.result j true false
-      (let below = stands-below c.args.arena.now.pairs j y there in omega (arith, below, c.pair_count.ensures.value)));
+  many = ap length c.in_ok-fresh.ensures ∙ length-replicate c.pair_count.result false ∙ c.pair_count.ensures.value;
+  fresh = λ system weighing starts source. tt;
   steps = (
       let none = (bounded c.args.arena.now c.requires.source 0 c.args.self.now c.args.marks.now c.requires.start).evaluations in
       omega (arith, none));
