@@ -6,7 +6,7 @@ use Rattle.std.proofs.Math.ListN.{get_or}
 use Rattle.std.proofs.lemmas.Bool.{cases_lt}
 use Rattle.std.proofs.lemmas.Cmp.{nat_list_eq_equiv}
 use Rattle.std.proofs.lemmas.Grind.{common_steps}
-use Rattle.std.proofs.lemmas.List.{map-append}
+use Rattle.std.proofs.lemmas.List.{length-map, map-append}
 use Rattle.std.proofs.lemmas.List.Elements.{Contains-append_left}
 use Rattle.std.proofs.lemmas.List.Folds.{list_any-append}
 use Rattle.std.proofs.lemmas.List.Quantifiers.{position-Some}
@@ -77,6 +77,11 @@ length-insert_key_most labels label = by (list_any (bytes_eq label) labels) refl
     by true e = rw e (omega arith)
     by false e = rw e (omega (arith, length-append labels (label ∷ [])))
 
+length-insert_all_most : (labels more : List Label) → length (fold (insert_key bytes_eq) labels more) ≤ length labels + length more
+length-insert_all_most labels [] = omega arith
+length-insert_all_most labels (label ∷ more) =
+    omega (arith, length-insert_key_most labels label, length-insert_all_most (insert_key bytes_eq labels label) more)
+
 -- a label is among those put in where it was before, or is one of them
 or-false : (b : Bool) → b ≡ (b || false)
 or-false true = refl
@@ -145,6 +150,10 @@ labels_of-push steps step = labels_of-append steps (step ∷ [])
 
 pub length-labels_of : (steps more : List Step) → length (labels_of steps) ≤ length (labels_of (steps ++ more))
 length-labels_of steps more = rw (labels_of-append steps more) (length-insert_all (labels_of steps) (map (λ step. step.label) more))
+
+-- there are at most as many labels as steps
+pub length-labels_of_most : (steps : List Step) → length (labels_of steps) ≤ length steps
+length-labels_of_most steps = omega (arith, length-insert_all_most [] (map (λ step. step.label) steps), length-map steps (λ step. step.label))
 
 -- a step brings at most one label, and steps bring at most their own
 pub length-labels_of_push : (steps : List Step) (step : Step) → length (labels_of (steps ++ step ∷ [])) ≤ length (labels_of steps) + 1
