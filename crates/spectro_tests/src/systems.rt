@@ -8,7 +8,13 @@ use std::process::Abort;
 use std::test::Fail;
 
 // There are so many states, the first, and these steps, by the numbers of their labels.
-fn assert_steps(rt: &impl Abort, lts: &Lts, states: u32, initial: u32, rows: &[(u32, u32, u32)]) {
+pub(crate) fn assert_steps(
+    rt: &impl Abort,
+    lts: &Lts,
+    states: u32,
+    initial: u32,
+    rows: &[(u32, u32, u32)],
+) {
     assert_eq!(rt; (lts.states(), lts.initial()), (states, initial));
     assert_eq!(rt; lts.step_count() as usize, rows.len());
     for (k, (from, label, to)) in rows.iter().enumerate() {
@@ -22,7 +28,7 @@ fn assert_step(rt: &impl Abort, lts: &Lts, k: u32, from: u32, label: u32, to: u3
 }
 
 // The labels have these texts, and are found by them.
-fn assert_labels(rt: &impl Abort, lts: &Lts, texts: &[&str]) {
+pub(crate) fn assert_labels(rt: &impl Abort, lts: &Lts, texts: &[&str]) {
     assert_eq!(rt; lts.label_count() as usize, texts.len());
     for (no, text) in texts.iter().enumerate() {
         assert_label(rt, lts, no as u32, text);
