@@ -1,2 +1,3 @@
+pub mod NodeFormulas
 pub mod NodePlaces
 pub mod Unfoldings

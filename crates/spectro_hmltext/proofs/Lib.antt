@@ -5,7 +5,6 @@ pub mod LabelOutcomes
 pub mod NodeCases
 pub mod NodeClauses
 pub mod NodeForms
-pub mod NodeFormulas
 pub mod NodeLabels
 pub mod NodeLineLaws
 pub mod NodeOutcomes

@@ -10,7 +10,7 @@ use Rattle.spectro_hmltext.specs.Printed.{clauses_text, formula_text, label_text
 use Rattle.spectro_hmltext.specs.Rests.{IsRest, Leaves, clauses_in, rest_text, rests_text, sign_text}
 use Rattle.spectro_hmltext.specs.declared.printer.Rest.{Rest}
 use Rattle.spectro_hmltext.specs.declared.printer.Rest.TheVariants as rest
-use Rattle.spectro_hmltext.proofs.NodeFormulas.{unfolded-see, unfolded-all}
+use Rattle.spectro_hml.proofs.NodeFormulas.{unfolded-see, unfolded-all}
 
 -- ---- what one turn leaves
 module _ {E : Type 0} (nodes : List SheetNode) (text old new : List ℕ) (below : List Rest) where

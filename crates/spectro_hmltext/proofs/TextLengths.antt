@@ -10,7 +10,7 @@ use Rattle.spectro_hml.specs.declared.node.Clause.{Clause}
 use Rattle.spectro_hml.specs.Sheets.{SheetNode, see_node, all_node, clauses_of, formulas_of, unfolded}
 use Rattle.spectro_hmltext.specs.Lengths.{AreLengths, clause_bytes, text_bytes}
 use Rattle.spectro_hmltext.specs.Printed.{clauses_text, formula_text, label_text}
-use Rattle.spectro_hmltext.proofs.NodeFormulas.{unfolded-see, unfolded-all}
+use Rattle.spectro_hml.proofs.NodeFormulas.{unfolded-see, unfolded-all}
 
 -- ---- formulas
 length-three : (a b c : List ℕ) → length (a ++ b ++ c) ≡ length a + length b + length c
