@@ -51,7 +51,7 @@ nodes_text-append number (node ∷ front) back =
     ∙ sym (append_assoc (node_text number node) (nodes_text (number + 1) front) (nodes_text (number + length (node ∷ front)) back))
 
 -- the line of one node more
-pub nodes-more : (nodes : List SheetNode) (k : ℕ) (node : SheetNode) → slice_get nodes k ≡ Some node
+nodes-more : (nodes : List SheetNode) (k : ℕ) (node : SheetNode) → slice_get nodes k ≡ Some node
     → sheet_text (take k nodes) ++ node_text k node ≡ sheet_text (take (k + 1) nodes)
 nodes-more nodes k node at =
     let within : k < length nodes = slice_get_within nodes k node at in
@@ -62,8 +62,22 @@ nodes-more nodes k node at =
     ∙ sym (nodes_text-append 0 (take k nodes) (node ∷ [])) ∙ ap sheet_text (sym more)
 
 -- the text up to a node, and the lines of the nodes after it
-pub nodes-parts : (nodes : List SheetNode) (k : ℕ) (node : SheetNode) → slice_get nodes k ≡ Some node
+nodes-parts : (nodes : List SheetNode) (k : ℕ) (node : SheetNode) → slice_get nodes k ≡ Some node
     → sheet_text nodes ≡ (sheet_text (take k nodes) ++ node_text k node) ++ nodes_text (0 + length (take (k + 1) nodes)) (drop (k + 1) nodes)
 nodes-parts nodes k node at =
     ap sheet_text (sym (take-append-drop (k + 1) nodes)) ∙ nodes_text-append 0 (take (k + 1) nodes) (drop (k + 1) nodes)
     ∙ ap (λ text. text ++ nodes_text (0 + length (take (k + 1) nodes)) (drop (k + 1) nodes)) (sym (nodes-more nodes k node at))
+
+-- the same behind what is held
+pub held-nodes-more : (held : List ℕ) (nodes : List SheetNode) (k : ℕ) (node : SheetNode) → slice_get nodes k ≡ Some node
+    → (held ++ sheet_text (take k nodes)) ++ node_text k node ≡ held ++ sheet_text (take (k + 1) nodes)
+held-nodes-more held nodes k node at =
+    append_assoc held (sheet_text (take k nodes)) (node_text k node) ∙ ap (λ text. held ++ text) (nodes-more nodes k node at)
+
+pub held-nodes-parts : (held : List ℕ) (nodes : List SheetNode) (k : ℕ) (node : SheetNode) → slice_get nodes k ≡ Some node
+    → held ++ sheet_text nodes ≡ ((held ++ sheet_text (take k nodes)) ++ node_text k node) ++
+    nodes_text (0 + length (take (k + 1) nodes)) (drop (k + 1) nodes)
+held-nodes-parts held nodes k node at =
+    let rest : List ℕ = nodes_text (0 + length (take (k + 1) nodes)) (drop (k + 1) nodes) in
+    ap (λ text. held ++ text) (nodes-parts nodes k node at) ∙ sym (append_assoc held (sheet_text (take k nodes) ++ node_text k node) rest)
+    ∙ ap (λ text. text ++ rest) (sym (append_assoc held (sheet_text (take k nodes)) (node_text k node)))

@@ -1,4 +1,4 @@
-ghost use Rattle.std.specs.Prelude.{◌≡◌, ◌+◌, ◌-◌, ◌^◌, ◌<◌, min, length, All, IfOk};
+ghost use Rattle.std.specs.Prelude.{◌≡◌, ◌+◌, ◌-◌, ◌^◌, ◌<◌, ◌≤◌, min, length, All, IfOk};
 ghost use Rattle.std.specs.List.{sum_by};
 ghost use Rattle.spectro_hml.specs.Sheets.{unfolded};
 ghost use Rattle.spectro_hmltext.specs.Lengths.{AreLengths, clause_bytes, text_bytes};
@@ -13,12 +13,28 @@ pub(crate) fn text_bytes(alloc: Global, sheet: &Sheet, node: usize) -> Result<u6
     requires { node < length sheet.now }
     ensures { IfOk result (λ bytes. bytes ≡ text_bytes (unfolded sheet.now node)) }
 {
-    let mut before = Vec::with_capacity(alloc, node)?;
-    for k in 0..node {
+    let before = lengths_before(alloc, sheet, node)?;
+    Ok(node_bytes(before.as_slice(), sheet, node))
+}
+
+/// The same for each node of the sheet. It takes time by the nodes and their clauses, however great the formulas are.
+pub fn text_lengths(alloc: Global, sheet: &Sheet) -> Result<Vec<u64>, AllocError>
+    ensures { IfOk result (λ lengths. AreLengths sheet.now (length sheet.now) lengths.items) }
+{
+    lengths_before(alloc, sheet, sheet.len())
+}
+
+// The same for the first `count` nodes.
+fn lengths_before(alloc: Global, sheet: &Sheet, count: usize) -> Result<Vec<u64>, AllocError>
+    requires { count ≤ length sheet.now }
+    ensures { IfOk result (λ before. AreLengths sheet.now count before.items) }
+{
+    let mut before = Vec::with_capacity(alloc, count)?;
+    for k in 0..count {
         let bytes = node_bytes(before.as_slice(), sheet, k);
         before.push(bytes)?;
     }
-    Ok(node_bytes(before.as_slice(), sheet, node))
+    Ok(before)
 }
 
 // The same from the lengths for the nodes before it.

@@ -6,6 +6,7 @@
 ghost use Rattle.std.specs.Prelude.{◌≡◌, ◌<◌, [], ◌∷◌, ◌++◌, length, codes, string_bytes, Some, IfOk, OnOk};
 ghost use Rattle.spectro_hml.specs.Nodes.{node_shown};
 ghost use Rattle.spectro_hml.specs.Sheets.{unfolded};
+ghost use Rattle.spectro_hmltext.specs.Lengths.{AreLengths, text_bytes};
 ghost use Rattle.spectro_hmltext.specs.Printed.{IsPrinted, formula_text, label_text};
 ghost use Rattle.spectro_hmltext.specs.Rests.{IsRest, Leaves, clauses_in, rest_text, sign_text};
 ghost use Rattle.spectro_hmltext.specs.declared.printer.Rest.TheVariants.{Clauses, Formula};
@@ -54,6 +55,37 @@ pub fn print(alloc: Global, sheet: &Sheet, node: usize, max: u32) -> Result<Prin
     ensures { IfOk result (IsPrinted (unfolded sheet.now node) max) }
 {
     let bytes = text_bytes(alloc, sheet, node)?;
+    print_of_length(alloc, sheet, node, bytes, max)
+}
+
+/// The same, where the lengths of the texts of all nodes are known from `text_lengths`: for many nodes of one sheet these
+/// are found once.
+pub fn print_with_lengths(
+    alloc: Global,
+    sheet: &Sheet,
+    lengths: &[u64],
+    node: usize,
+    max: u32,
+) -> Result<Printed, AllocError>
+    requires node { node < length sheet.now }
+    requires lengths { AreLengths sheet.now (length sheet.now) lengths.now }
+    ensures { IfOk result (IsPrinted (unfolded sheet.now node) max) }
+{
+    print_of_length(alloc, sheet, node, lengths[node], max)
+}
+
+// The same, where the text is known to have so many bytes.
+fn print_of_length(
+    alloc: Global,
+    sheet: &Sheet,
+    node: usize,
+    bytes: u64,
+    max: u32,
+) -> Result<Printed, AllocError>
+    requires node { node < length sheet.now }
+    requires bytes { bytes ≡ text_bytes (unfolded sheet.now node) }
+    ensures { IfOk result (IsPrinted (unfolded sheet.now node) max) }
+{
     if bytes > u64::from(max) {
         return Ok(Printed::TooLong);
     }

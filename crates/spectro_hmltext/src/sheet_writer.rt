@@ -17,10 +17,19 @@ pub fn print_sheet<O: Sink>(sheet: &Sheet, out: &mut O) -> Result<(), Failed>
     ensures cause { HasCause (O.faults out.old) (O.faults out.new) result }
 {
     let mut batch = Batch::new();
-    for k in 0..sheet.len() {
-        put_node(k, sheet.node(k), &mut batch, out)?;
-    }
+    put_sheet(sheet, &mut batch, out)?;
     batch.flush(out)
+}
+
+/// Puts a line for each node of the sheet behind the bytes that are held.
+pub fn put_sheet<O: Sink>(sheet: &Sheet, batch: &mut Batch, out: &mut O) -> Result<(), Failed>
+    ensures bytes { Puts (O.written out.old) (O.written out.new) result batch.new (batch.old ++ sheet_text sheet.now) }
+    ensures cause { HasCause (O.faults out.old) (O.faults out.new) result }
+{
+    for k in 0..sheet.len() {
+        put_node(k, sheet.node(k), batch, out)?;
+    }
+    Ok(())
 }
 
 fn put_node<O: Sink>(

@@ -1,28 +1,5 @@
-use Rattle.std.proofs.Common.{◌≡◌, ◌∙◌, take, arith, subst}
-use Rattle.std.proofs.lemmas.List.{take_all}
-use Rattle.std.proofs.lemmas.Result.{err_from_is_err_and}
-use Rattle.spectro_io.specs.Batches.{IsPending}
-use Rattle.spectro_io.proofs.Batches.{pending-more, pending-whole, puts-stopped}
-use Rattle.spectro_hmltext.proofs.WrittenSheets.{nodes-more, nodes-parts}
+use Rattle.spectro_io.proofs.Batches.{pending-whole}
 use Rattle.spectro_hmltext.proofs.sheet_writer.print_sheet.Goals as goal
 
--- the sink failed before the line was out
-pub returns-in_err-put_node-clause-bytes : goal.returns-in_err-put_node-clause-bytes
-returns-in_err-put_node-clause-bytes g c =
-    let p = err_from_is_err_and c.from_residual.result c.from_residual.ensures.1 in
-    rw p.1 (puts-stopped _ _ _ _ _ _ _ _
-    (nodes-parts c.args.sheet.now c.loop-k.k _ c.node.ensures.node) c.loop-k.invariant.bytes c.in_err-put_node.ensures.bytes)
-
--- one line more is out or held
-pub loop-k-preserved : goal.loop-k-preserved
-loop-k-preserved g c = record {
-  bytes = subst (IsPending _ _ _) (nodes-more c.args.sheet.now c.loop-k.k _ c.node.ensures.node)
-      (pending-more _ _ _ _ _ _ _ c.loop-k.invariant.bytes c.in_ok-put_node.ensures.bytes);
-  faults = c.in_ok-put_node.ensures.cause.kept ∙ c.loop-k.invariant.faults;
-}
-
--- all that was held is out
 pub returns-clause-bytes : goal.returns-clause-bytes
-returns-clause-bytes g c =
-    let all : take c.loop-k.k c.args.sheet.now ≡ c.args.sheet.now = take_all c.loop-k.k c.args.sheet.now (omega (arith, c.len-k-end.ensures.value)) in
-    pending-whole _ _ _ _ _ _ (rw all at c.loop-k.invariant.bytes) c.flush.ensures.bytes
+returns-clause-bytes g c = pending-whole _ _ _ _ _ _ (rw c.new-batch.ensures at c.in_ok-put_sheet.ensures.bytes) c.flush.ensures.bytes
