@@ -6,15 +6,19 @@ use std::alloc::Global;
 // How many places are taken first: a page of memory.
 const FIRST: usize = 1_024;
 
+// How many places there may be, beyond the first, for each number that was put down.
+const SPREAD: usize = 4;
+
 /// Numbers by row and column, as far as they were put down: what was looked up once is read the next time. It grows as
-/// numbers are put down, up to `most` places, of which the first rows take theirs. What has no place is not kept, and
-/// neither is what finds no memory for its place: then it is looked up again.
+/// numbers are put down, by a few places for each and up to `most`, of which the first rows take theirs. What has no
+/// place is not kept, and neither is what finds no memory for its place: then it is looked up again.
 ///
 /// A place has 1 more than its number, and 0 where there is none.
 #[derive(Drop)]
 pub(crate) struct Known {
     width: u32,
     most: usize,
+    puts: usize,
     places: Vec<u32>,
 }
 
@@ -27,6 +31,7 @@ impl Known {
         Known {
             width,
             most,
+            puts: 0,
             places: Vec::new(alloc),
         }
     }
@@ -53,13 +58,16 @@ impl Known {
         }
     }
 
-    // Takes room for the place, and for as many again, if it is one of those that there may be and there is memory.
+    // Counts a number, and takes room for its place, and for as many again, if it is one of those that there may be by
+    // now and there is memory.
     fn make_room(&mut self, place: usize)
         ensures knows { (p q m : ℕ) → Knows self.new p q m → Knows self.old p q m }
         ensures width { self.new.width ≡ self.old.width }
     {
-        if self.places.len() <= place && place < self.most {
-            let count = place.saturating_mul(2).max(FIRST).min(self.most);
+        self.puts = self.puts.saturating_add(1);
+        let most = self.puts.saturating_mul(SPREAD).saturating_add(FIRST).min(self.most);
+        if self.places.len() <= place && place < most {
+            let count = place.saturating_mul(2).max(FIRST).min(most);
             let _ = self.places.resize(count, 0);
         }
     }
