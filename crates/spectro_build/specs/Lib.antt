@@ -1,0 +1,5 @@
+pub mod Choices
+pub mod Needed
+pub mod Built
+pub mod Wanted
+pub mod LawsOfBuilding
