@@ -17,3 +17,10 @@ pub mod NeededLists
 pub mod BuiltExist
 pub mod BuiltExamples
 pub mod SolvedArenas
+pub mod Fittings
+pub mod SeenObservations
+pub mod MemberClauses
+pub mod MaskSplits
+pub mod NamedNeeds
+pub mod MaskSearches
+pub mod Choosings

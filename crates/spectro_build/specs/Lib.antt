@@ -3,3 +3,8 @@ pub mod Needed
 pub mod Built
 pub mod Wanted
 pub mod LawsOfBuilding
+pub mod Keys
+pub mod Roles
+pub mod Chosen
+pub mod Splits
+pub mod Kept

@@ -3,7 +3,14 @@
 
 mod building;
 mod built;
+mod choosing;
+mod clauses;
+mod fitting;
+mod key;
 mod laws;
+mod observing;
+mod role;
+mod splitting;
 mod wanted;
 
 pub use building::build;
