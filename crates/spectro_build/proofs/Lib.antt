@@ -21,6 +21,9 @@ pub mod Fittings
 pub mod SeenObservations
 pub mod MemberClauses
 pub mod MaskSplits
+pub mod KeyOrders
 pub mod NamedNeeds
 pub mod MaskSearches
+pub mod KeySets
+pub mod Closings
 pub mod Choosings

@@ -8,3 +8,4 @@ pub mod Roles
 pub mod Chosen
 pub mod Splits
 pub mod Kept
+pub mod Needs
