@@ -26,4 +26,6 @@ pub mod NamedNeeds
 pub mod MaskSearches
 pub mod KeySets
 pub mod Closings
+pub mod Writings
+pub mod NodeNumbers
 pub mod Choosings

@@ -9,3 +9,4 @@ pub mod Chosen
 pub mod Splits
 pub mod Kept
 pub mod Needs
+pub mod Written

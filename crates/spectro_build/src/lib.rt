@@ -10,10 +10,12 @@ mod fitting;
 mod key;
 mod laws;
 mod needs;
+mod numbers;
 mod observing;
 mod role;
 mod splitting;
 mod wanted;
+mod writing;
 
 pub use building::build;
 pub use built::{Built, NodeList};
