@@ -27,5 +27,6 @@ pub mod MaskSearches
 pub mod KeySets
 pub mod Closings
 pub mod Writings
+pub mod Buildings
 pub mod NodeNumbers
 pub mod Choosings

@@ -5,7 +5,11 @@ ghost use Rattle.spectro_build.specs.Built.{IsBuilt};
 ghost use Rattle.spectro_build.specs.Wanted.{FromEachWeighing, IsListedIn, IsSolvedFrom, needs_of};
 
 use crate::built::Built;
-use crate::wanted::Wanted;
+use crate::choosing::Chooser;
+use crate::needs::Needs;
+use crate::numbers::numbers_of;
+use crate::wanted::{Wanted, keys_of};
+use crate::writing::write_nodes;
 use spectro_lts::Lts;
 use spectro_pairs::Arena;
 use spectro_solve::Table;
@@ -28,5 +32,14 @@ pub fn build(
         IsBuilt weighing lts.now arena.now.pairs (listed_at arena.now.pairs table.now.rows) (needs_of arena.now.pairs wanted.now)
         built.sheet built.nodes)) }
 {
-    Err(AllocError)
+    // An arena has few pairs, so what one step makes of a price stays a number of 32 bits.
+    prove!(arena.pair_count() <= 500_000);
+    let mut chooser = Chooser::new(alloc);
+    let keys = keys_of(alloc, table, wanted)?;
+    let mut needs = Needs::of(alloc, &keys)?;
+    needs.close(arena, table, &mut chooser)?;
+    needs.sort()?;
+    let sheet = write_nodes(alloc, lts, arena, table, &needs, &mut chooser)?;
+    let nodes = numbers_of(alloc, &needs, &keys)?;
+    Ok(Built { sheet, nodes })
 }
