@@ -55,7 +55,8 @@ module _ (system : System) (weighing : Weighing) (starts : List (ℕ × ℕ)) (e
       (subst Rises (sym (row one first)) (key-rises system weighing starts explored source rows solved one first))
       (key-stands system weighing starts explored source rows solved one first) (key-stands system weighing starts explored source rows solved other second)
       (stands one first) (stands other second)
-      (subst (λ n. IsFirstSmaller (n ∷ one.pair ∷ one.place ∷ []) (height (need_at explored.pairs rows other) ∷ other.pair ∷ other.place ∷ [])) (level one first)
+      (subst (λ n. IsFirstSmaller (n ∷ one.pair ∷ one.place ∷ []) (height (need_at explored.pairs rows other) ∷ other.pair ∷ other.place ∷ []))
+      (level one first)
       (subst (λ n. IsFirstSmaller (row_of one) (n ∷ other.pair ∷ other.place ∷ [])) (level other second) smaller))
     where
       level : (key : Key) → IsKey rows key → key.height ≡ height (need_at explored.pairs rows key)

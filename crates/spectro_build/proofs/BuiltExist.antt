@@ -27,7 +27,8 @@ use Rattle.spectro_build.proofs.Sortings.{sorting}
 use Rattle.spectro_build.proofs.Comparisons.{compare_clauses}
 use Rattle.spectro_build.proofs.NeededLists.{all_needed}
 
-order-from : (pairs : List Pair) (xs : List Need) → Ascend (IsBuiltBefore pairs) (IsBuiltBefore-irrefl pairs) (IsBuiltBefore-trans pairs) xs → AreInOrder pairs xs
+order-from : (pairs : List Pair) (xs : List Need) → Ascend (IsBuiltBefore pairs) (IsBuiltBefore-irrefl pairs) (IsBuiltBefore-trans pairs) xs
+    → AreInOrder pairs xs
 order-from pairs [] up = tt
 order-from pairs (x ∷ xs) up = (up.0, order-from pairs xs up.1)
 
@@ -45,7 +46,8 @@ collect {X} {Y} Q (z ∷ xs) each =
     let (ys, long, rest) = collect Q xs (λ x member. each x (Contains-later z xs x member)) in
     (y ∷ ys, (omega arith), λ k. at y ys made rest k)
   where
-    at : (y : Y) (ys : List Y) → Q z y → ((k : ℕ) (x : X) (w : Y) → StandsAt xs k x → StandsAt ys k w → Q x w) → (k : ℕ) (x : X) (w : Y) → StandsAt (z ∷ xs) k x → StandsAt (y ∷ ys) k w → Q x w
+    at : (y : Y) (ys : List Y) → Q z y → ((k : ℕ) (x : X) (w : Y) → StandsAt xs k x → StandsAt ys k w → Q x w) → (k : ℕ) (x : X) (w : Y) → StandsAt (z ∷ xs) k x
+        → StandsAt (y ∷ ys) k w → Q x w
     at y ys made rest zero x w here there = subst (λ v. Q v w) (same_Some z x here) (subst (Q z) (same_Some y w there) made)
     at y ys made rest (suc k) x w here there = rest k x w here there
 
@@ -57,11 +59,15 @@ module _ (needs : List Need) (once : (i j : ℕ) (x : Need) → StandsAt needs i
   AreClausesFor each clauses = (clause : Clause) → Contains clauses clause ↔ ((one : ClauseNeed) × Contains each one × IsClauseFor needs one clause)
 
   -- in the order of what is needed
-  clauses_for : (each : List ClauseNeed) → ((one : ClauseNeed) → Contains each one → Contains needs one.need) → (clauses : List Clause) × AreClausesFor each clauses
+  clauses_for : (each : List ClauseNeed) → ((one : ClauseNeed) → Contains each one → Contains needs one.need) → (clauses : List Clause)
+      × AreClausesFor each clauses
   clauses_for [] there = ([], λ clause. ((λ member. absurd (Contains-none clause member)), (λ (one, member, made). absurd (Contains-none one member))))
-  clauses_for (one ∷ each) there = go (StandsIn-member needs one.need (there one (Contains-first one each))) (clauses_for each (λ other member. there other (Contains-later one each other member)))
+  clauses_for (one ∷ each) there =
+      go (StandsIn-member needs one.need (there one (Contains-first one each)))
+      (clauses_for each (λ other member. there other (Contains-later one each other member)))
     where
-      go : (k : ℕ) × StandsAt needs k one.need → (clauses : List Clause) × AreClausesFor each clauses → (clauses : List Clause) × AreClausesFor (one ∷ each) clauses
+      go : (k : ℕ) × StandsAt needs k one.need → (clauses : List Clause) × AreClausesFor each clauses → (clauses : List Clause)
+          × AreClausesFor (one ∷ each) clauses
       go (k, stands) (clauses, rest) = (
         clause_of one k ∷ clauses,
         λ clause. (
@@ -80,10 +86,12 @@ module _ (needs : List Need) (once : (i j : ℕ) (x : Need) → StandsAt needs i
           is_first clause (sign, at) = let place = once k clause.node one.need stands at in λ i. record { positive = sym sign i; node = place i }
 
   node_for : (choice : Choice) → ((y : Need) → Contains (taken choice) y → Contains needs y) → (node : SheetNode) × IsNodeOf needs choice node
-  node_for (by_observation label y) there = let (next, stands) = StandsIn-member needs y (there y (Contains-first y [])) in (see_node label next, (next, stands, refl))
+  node_for (by_observation label y) there =
+      let (next, stands) = StandsIn-member needs y (there y (Contains-first y [])) in (see_node label next, (next, stands, refl))
   node_for (by_split each) there =
       let (some, exact) = clauses_for each (λ one member. there one.need (Contains-map (λ (clause : ClauseNeed). clause.need) each one member)) in
-      let (clauses, sorted) = sorting IsBeforeClause before-irrefl before-trans (λ (clause : Clause). Unit {0}) (λ one other h k. compare_clauses one other) some (λ clause member. tt) in (
+      let (clauses, sorted) = sorting IsBeforeClause before-irrefl before-trans (λ (clause : Clause). Unit {0}) (λ one other h k. compare_clauses one other)
+      some (λ clause member. tt) in (
         all_node clauses,
         (
           clauses,
@@ -96,21 +104,24 @@ module _ (needs : List Need) (once : (i j : ℕ) (x : Need) → StandsAt needs i
         ),
       )
 
-  numbers_for : (wanted : List Need) → ((x : Need) → Contains wanted x → Contains needs x) → (numbers : List ℕ) × (map (slice_get needs) numbers ≡ map Some wanted)
+  numbers_for : (wanted : List Need) → ((x : Need) → Contains wanted x → Contains needs x) → (numbers : List ℕ)
+      × (map (slice_get needs) numbers ≡ map Some wanted)
   numbers_for [] there = ([], refl)
   numbers_for (x ∷ wanted) there =
       let (k, stands) = StandsIn-member needs x (there x (Contains-first x wanted)) in
       let (numbers, rest) = numbers_for wanted (λ y member. there y (Contains-later x wanted y member)) in
       (k ∷ numbers, cc)
 
-module _ (weighing : Weighing) (system : System) (pairs : List Pair) (table : Table) (solved : IsSolvedOn weighing system pairs table) (wanted : List Need) (listed : All (IsListed pairs table) wanted) where
+module _ (weighing : Weighing) (system : System) (pairs : List Pair) (table : Table) (solved : IsSolvedOn weighing system pairs table) (wanted : List Need)
+    (listed : All (IsListed pairs table) wanted) where
   want : (x : Need) → Contains wanted x → IsListed pairs table x
   want x member = All-contains (IsListed pairs table) wanted x listed member
 
   from_needs : (needs : List Need) → AreInOrder pairs needs → ((x : Need) → Contains needs x ↔ IsNeeded weighing system table wanted x)
       → (nodes : List SheetNode) × (numbers : List ℕ) × IsBuilt weighing system pairs table wanted nodes numbers
   from_needs needs order exact =
-      let (nodes, count, chosen) = collect (λ x node. (choice : Choice) × (choice_at weighing system table x ≡ Some choice) × IsNodeOf needs choice node) needs node_at in
+      let (nodes, count, chosen) = collect (λ x node. (choice : Choice) × (choice_at weighing system table x ≡ Some choice) × IsNodeOf needs choice node) needs
+      node_at in
       let (numbers, numbered) = numbers_for needs (stands-once pairs needs order) wanted (λ x member. (exact x).1 (as_wanted x member)) in (
         nodes,
         numbers,
@@ -124,7 +135,8 @@ module _ (weighing : Weighing) (system : System) (pairs : List Pair) (table : Ta
         },
       )
     where
-      node_at : (x : Need) → Contains needs x → (node : SheetNode) × ((choice : Choice) × (choice_at weighing system table x ≡ Some choice) × IsNodeOf needs choice node)
+      node_at : (x : Need) → Contains needs x → (node : SheetNode)
+          × ((choice : Choice) × (choice_at weighing system table x ≡ Some choice) × IsNodeOf needs choice node)
       node_at x member =
           let need = (exact x).0 member in
           let (choice, is) = choice-exists weighing system pairs table solved x (needed-listed weighing system pairs table solved.closed wanted want x need) in

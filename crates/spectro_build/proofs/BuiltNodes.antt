@@ -36,7 +36,8 @@ use Rattle.spectro_build.proofs.NodeClauses.{plus-node, minus-node, node-plus, n
 -- what the formula of the node has to be
 module _ (weighing : Weighing) (system : System) (nodes : List SheetNode) where
   -- the formula of a need that fits distinguishes the pair at which it fits, and fits itself
-  fitting-formula : (table : Table) (z : Pair) (update : Price → Price) (e : Price) (y : Need) (k : ℕ) → Fits table z update e y → IsNodeFor weighing system nodes y k
+  fitting-formula : (table : Table) (z : Pair) (update : Price → Price) (e : Price) (y : Need) (k : ℕ) → Fits table z update e y
+      → IsNodeFor weighing system nodes y k
       → Distinguishes system z.state z.set (unfolded nodes k) × IsAtMost (update (price weighing (unfolded nodes k))) e
   fitting-formula table z update e y k fits exact = (
     subst (λ (w : Pair). Distinguishes system w.state w.set (unfolded nodes k)) fits.pair exact.distinguishes,
@@ -45,12 +46,15 @@ module _ (weighing : Weighing) (system : System) (nodes : List SheetNode) where
 
   module _ (pairs : List Pair) (table : Table) (solved : IsSolvedOn weighing system pairs table) (x : Need) (here : IsListed pairs table x) (k : ℕ) where
     -- an observation of a lower node
-    observation-node : (label : Label) (y : Need) (next : ℕ) → StandsAt nodes k (see_node label next) → next < k → IsObservation weighing system table x label y → IsNodeFor weighing system nodes y next
+    observation-node : (label : Label) (y : Need) (next : ℕ) → StandsAt nodes k (see_node label next) → next < k → IsObservation weighing system table x label y
+        → IsNodeFor weighing system nodes y next
         → IsNodeFor weighing system nodes x k
     observation-node label y next at before is exact =
-        let fits = fitting-formula table (record { state = is.target; set = post system x.pair.set label }) (inverse (observe (weight_of weighing label))) x.price y next is.fits exact in
+        let fits = fitting-formula table (record { state = is.target; set = post system x.pair.set label }) (inverse (observe (weight_of weighing label)))
+        x.price y next is.fits exact in
         subst (IsOfPrice weighing system x.pair.state x.pair.set x.price) (sym (unfolded-see nodes k label next at before))
-        (observation-exact weighing system x.pair.state x.pair.set (table x.pair.state x.pair.set) (solved.least x.pair.state x.pair.set here.reached) x.price here.listed
+        (observation-exact weighing system x.pair.state x.pair.set (table x.pair.state x.pair.set) (solved.least x.pair.state x.pair.set here.reached) x.price
+        here.listed
         label is.target (unfolded nodes next) is.step fits.0 fits.1)
 
     -- a split into clauses of lower nodes
@@ -80,7 +84,8 @@ module _ (weighing : Weighing) (system : System) (nodes : List SheetNode) where
       refutes_left some =
           let (one, member, by) = split.each.for_left some in
           let (clause, inside, (sign, at)) = clause-there one member in
-          let fits = fitting-formula table (record { state = p; set = split.left }) as_deepest e one.need clause.node by.fits (exact one member clause.node at) in
+          let fits = fitting-formula table (record { state = p; set = split.left }) as_deepest e one.need clause.node by.fits
+          (exact one member clause.node at) in
           (formula_at formulas clause.node, node-plus formulas clauses clause inside (sign ∙ by.positive), fits.0)
 
       refutes_right : (q : ℕ) → Contains split.right q
@@ -91,27 +96,34 @@ module _ (weighing : Weighing) (system : System) (nodes : List SheetNode) where
           let (clause, inside, (sign, at)) = clause-there one member in
           elim refutes [
             | inl by ↦
-                let fits = fitting-formula table (record { state = p; set = q ∷ [] }) as_positive e one.need clause.node by.fits (exact one member clause.node at) in
+                let fits = fitting-formula table (record { state = p; set = q ∷ [] }) as_positive e one.need clause.node by.fits
+                (exact one member clause.node at) in
                 inl (formula_at formulas clause.node, node-plus formulas clauses clause inside (sign ∙ by.positive), fits.0)
             | inr by ↦
-                let fits = fitting-formula table (record { state = q; set = p ∷ [] }) as_negative e one.need clause.node by.fits (exact one member clause.node at) in
+                let fits = fitting-formula table (record { state = q; set = p ∷ [] }) as_negative e one.need clause.node by.fits
+                (exact one member clause.node at) in
                 inr (formula_at formulas clause.node, node-minus formulas clauses clause inside (sign ∙ by.negative), fits.0)
           ]
 
-      plus_cost : (formula : Formula) → HasPlus (clauses_of formulas clauses) formula → Satisfies system p formula × IsAtMost (as_deepest (price weighing formula)) e
+      plus_cost : (formula : Formula) → HasPlus (clauses_of formulas clauses) formula → Satisfies system p formula
+          × IsAtMost (as_deepest (price weighing formula)) e
       plus_cost formula has =
           let (clause, inside, sign, is) = plus-node formulas clauses formula has in
           let (one, member, (signed, at)) = (same clause).0 inside in
           subst (λ f. Satisfies system p f × IsAtMost (as_deepest (price weighing f)) e) is (elim (split.each.from one member) [
-            | inl (some, by) ↦ let fits = fitting-formula table (record { state = p; set = split.left }) as_deepest e one.need clause.node by.fits (exact one member clause.node at) in (fits.0.satisfied, fits.1)
+            | inl (some, by) ↦
+                let fits = fitting-formula table (record { state = p; set = split.left }) as_deepest e one.need clause.node by.fits
+                (exact one member clause.node at) in (fits.0.satisfied, fits.1)
             | inr (q, right, inl by) ↦
-                let fits = fitting-formula table (record { state = p; set = q ∷ [] }) as_positive e one.need clause.node by.fits (exact one member clause.node at) in
+                let fits = fitting-formula table (record { state = p; set = q ∷ [] }) as_positive e one.need clause.node by.fits
+                (exact one member clause.node at) in
                 let low = fits.1 in
                 (fits.0.satisfied, omega arith)
             | inr (q, right, inr by) ↦ absurd (let sides : true ≡ false = sym sign ∙ (signed ∙ by.negative) in cc)
           ])
 
-      minus_cost : (formula : Formula) → HasMinus (clauses_of formulas clauses) formula → ¬ Satisfies system p formula × IsAtMost (as_negative (price weighing formula)) e
+      minus_cost : (formula : Formula) → HasMinus (clauses_of formulas clauses) formula → ¬ Satisfies system p formula
+          × IsAtMost (as_negative (price weighing formula)) e
       minus_cost formula has =
           let (clause, inside, sign, is) = minus-node formulas clauses formula has in
           let (one, member, (signed, at)) = (same clause).0 inside in
@@ -119,19 +131,22 @@ module _ (weighing : Weighing) (system : System) (nodes : List SheetNode) where
             | inl (some, by) ↦ absurd (let sides : false ≡ true = sym sign ∙ (signed ∙ by.positive) in cc)
             | inr (q, right, inl by) ↦ absurd (let sides : false ≡ true = sym sign ∙ (signed ∙ by.positive) in cc)
             | inr (q, right, inr by) ↦
-                let fits = fitting-formula table (record { state = q; set = p ∷ [] }) as_negative e one.need clause.node by.fits (exact one member clause.node at) in
+                let fits = fitting-formula table (record { state = q; set = p ∷ [] }) as_negative e one.need clause.node by.fits
+                (exact one member clause.node at) in
                 (fits.0.refuted p (Contains-first p []), fits.1)
           ])
 
       -- a positive clause is that of the left part, or no deeper than the others may be
-      other-low : (only : ℕ) → ((one : ClauseNeed) → Contains wanted one → RefutesLeft table p e split.left one → StandsAt needs only one.need) → (clause : Clause) → Contains clauses clause
+      other-low : (only : ℕ) → ((one : ClauseNeed) → Contains wanted one → RefutesLeft table p e split.left one → StandsAt needs only one.need)
+          → (clause : Clause) → Contains clauses clause
           → clause.positive ≡ true → clause.node ≢ only → (price weighing (formula_at formulas clause.node)).observations ≤ e.other_positive
       other-low only is_left clause inside sign apart =
           let (one, member, (signed, at)) = (same clause).0 inside in
           elim (split.each.from one member) [
             | inl (some, by) ↦ absurd (apart (once clause.node only one.need at (is_left one member by)))
             | inr (q, right, inl by) ↦
-                let fits = fitting-formula table (record { state = p; set = q ∷ [] }) as_positive e one.need clause.node by.fits (exact one member clause.node at) in
+                let fits = fitting-formula table (record { state = p; set = q ∷ [] }) as_positive e one.need clause.node by.fits
+                (exact one member clause.node at) in
                 let low = fits.1 in
                 omega arith
             | inr (q, right, inr by) ↦ absurd (let sides : true ≡ false = sym sign ∙ (signed ∙ by.negative) in cc)
@@ -165,26 +180,32 @@ module _ (weighing : Weighing) (system : System) (nodes : List SheetNode) where
 
       pub split-node : StandsAt nodes k (all_node clauses) → All (λ clause. clause.node < k) clauses → IsNodeFor weighing system nodes x k
       split-node at before = subst (IsOfPrice weighing system p x.pair.set e) (sym (unfolded-all nodes k clauses at before))
-          (split-exact weighing system p x.pair.set (table p x.pair.set) (solved.least p x.pair.set here.reached) e here.listed (clauses_of formulas clauses) split-at)
+          (split-exact weighing system p x.pair.set (table p x.pair.set) (solved.least p x.pair.set here.reached) e here.listed (clauses_of formulas clauses)
+          split-at)
 
 module _ (weighing : Weighing) (system : System) (pairs : List Pair) (table : Table) (wanted : List Need) (nodes : List SheetNode) (numbers : List ℕ)
     (built : IsBuilt weighing system pairs table wanted nodes numbers) where
   -- what a choice takes has a place, and it is before
-  pub taken-before : (k : ℕ) (x : Need) (choice : Choice) (y : Need) → StandsAt built.needs k x → choice_at weighing system table x ≡ Some choice → Contains (taken choice) y
+  pub taken-before : (k : ℕ) (x : Need) (choice : Choice) (y : Need) → StandsAt built.needs k x → choice_at weighing system table x ≡ Some choice
+      → Contains (taken choice) y
       → (j : ℕ) → StandsAt built.needs j y → j < k
-  taken-before k x choice y here is member j there = lower-before pairs built.needs built.order j k y x there here (taken-lower weighing system table x choice y is member)
+  taken-before k x choice y here is member j there =
+      lower-before pairs built.needs built.order j k y x there here (taken-lower weighing system table x choice y is member)
 
-  pub taken-placed : (k : ℕ) (x : Need) (choice : Choice) (y : Need) → StandsAt built.needs k x → choice_at weighing system table x ≡ Some choice → Contains (taken choice) y
+  pub taken-placed : (k : ℕ) (x : Need) (choice : Choice) (y : Need) → StandsAt built.needs k x → choice_at weighing system table x ≡ Some choice
+      → Contains (taken choice) y
       → (j : ℕ) × StandsAt built.needs j y
   taken-placed k x choice y here is member =
       StandsIn-member built.needs y ((built.needed y).1 (as_taken x choice y ((built.needed x).0 (Contains-stands built.needs x (k, here))) is member))
 
   module _ (solved : IsSolvedOn weighing system pairs table) (listed : All (IsListed pairs table) wanted) where
     needs-listed : (k : ℕ) (x : Need) → StandsAt built.needs k x → IsListed pairs table x
-    needs-listed k x here = needed-listed weighing system pairs table solved.closed wanted (λ y member. All-contains (IsListed pairs table) wanted y listed member) x
+    needs-listed k x here =
+        needed-listed weighing system pairs table solved.closed wanted (λ y member. All-contains (IsListed pairs table) wanted y listed member) x
         ((built.needed x).0 (Contains-stands built.needs x (k, here)))
 
-    choice-node : (k : ℕ) (x : Need) (node : SheetNode) (choice : Choice) → StandsAt built.needs k x → StandsAt nodes k node → choice_at weighing system table x ≡ Some choice → IsNodeOf built.needs choice node
+    choice-node : (k : ℕ) (x : Need) (node : SheetNode) (choice : Choice) → StandsAt built.needs k x → StandsAt nodes k node
+        → choice_at weighing system table x ≡ Some choice → IsNodeOf built.needs choice node
         → ((j : ℕ) (y : Need) → j < k → StandsAt built.needs j y → IsNodeFor weighing system nodes y j) → IsNodeFor weighing system nodes x k
     choice-node k x node (by_observation label y) here at is (next, there, made) exact =
         let before = taken-before k x (by_observation label y) y here is (Contains-first y []) next there in

@@ -65,10 +65,13 @@ numbers-one needs once (x ∷ xs) (n ∷ ns) (m ∷ ms) is too =
     cc
 
 module _ (weighing : Weighing) (system : System) (pairs : List Pair) (table : Table) (wanted : List Need) where
-  module _ (nodes others : List SheetNode) (numbers also : List ℕ) (one : IsBuilt weighing system pairs table wanted nodes numbers) (two : IsBuilt weighing system pairs table wanted others also) where
+  module _ (nodes others : List SheetNode) (numbers also : List ℕ) (one : IsBuilt weighing system pairs table wanted nodes numbers)
+      (two : IsBuilt weighing system pairs table wanted others also) where
     -- both have the same needs in the same order
     same_needs : one.needs ≡ two.needs
-    same_needs = same_by_members (IsBuiltBefore pairs) (IsBuiltBefore-irrefl pairs) (IsBuiltBefore-trans pairs) one.needs two.needs (order-ascend pairs one.needs one.order) (order-ascend pairs two.needs two.order)
+    same_needs =
+        same_by_members (IsBuiltBefore pairs) (IsBuiltBefore-irrefl pairs) (IsBuiltBefore-trans pairs) one.needs two.needs
+        (order-ascend pairs one.needs one.order) (order-ascend pairs two.needs two.order)
         (λ x member. (two.needed x).1 ((one.needed x).0 member))
         (λ x member. (one.needed x).1 ((two.needed x).0 member))
 
@@ -90,18 +93,22 @@ module _ (weighing : Weighing) (system : System) (pairs : List Pair) (table : Ta
       numbers-one one.needs once wanted numbers also one.numbered (subst (λ xs. map (slice_get xs) also ≡ map Some wanted) (sym same_needs) two.numbered),
     )
 
-  module _ (nodes : List SheetNode) (numbers : List ℕ) (labels : All (λ (step : Step). IsLabel step.label) system.steps) (built : IsBuilt weighing system pairs table wanted nodes numbers) where
-    node-may : (k : ℕ) (x : Need) (node : SheetNode) (choice : Choice) → StandsAt built.needs k x → choice_at weighing system table x ≡ Some choice → IsNodeOf built.needs choice node → IsNodeAt k node
+  module _ (nodes : List SheetNode) (numbers : List ℕ) (labels : All (λ (step : Step). IsLabel step.label) system.steps)
+      (built : IsBuilt weighing system pairs table wanted nodes numbers) where
+    node-may : (k : ℕ) (x : Need) (node : SheetNode) (choice : Choice) → StandsAt built.needs k x → choice_at weighing system table x ≡ Some choice
+        → IsNodeOf built.needs choice node → IsNodeAt k node
     node-may k x node (by_observation label y) here is (next, there, made) = subst (IsNodeAt k) (sym made) (
       All-contains (λ (step : Step). IsLabel step.label) system.steps _ labels (choice-is weighing system table x (by_observation label y) is).step,
       taken-before weighing system pairs table wanted nodes numbers built k x (by_observation label y) y here is (Contains-first y []) next there,
     )
-    node-may k x node (by_split each) here is (clauses, rise, made, same) = subst (IsNodeAt k) (sym made) (rise, All-weaker (Contains clauses) (λ clause. clause.node < k) before clauses (All-contains_itself clauses))
+    node-may k x node (by_split each) here is (clauses, rise, made, same) =
+        subst (IsNodeAt k) (sym made) (rise, All-weaker (Contains clauses) (λ clause. clause.node < k) before clauses (All-contains_itself clauses))
       where
         before : (clause : Clause) → Contains clauses clause → clause.node < k
         before clause member =
             let (one, inside, (sign, there)) = (same clause).0 member in
-            taken-before weighing system pairs table wanted nodes numbers built k x (by_split each) one.need here is (Contains-map (λ (clause : ClauseNeed). clause.need) each one inside) clause.node there
+            taken-before weighing system pairs table wanted nodes numbers built k x (by_split each) one.need here is
+            (Contains-map (λ (clause : ClauseNeed). clause.need) each one inside) clause.node there
 
     pub built-sheet : IsSheet nodes
     built-sheet k node at =

@@ -18,7 +18,8 @@ use Rattle.spectro_build.specs.declared.key.Key.{Key}
 use Rattle.spectro_build.specs.declared.splitting.Split.{Split}
 
 module _ (weighing : Weighing) (system : System) (table : Table) (x : Need) where
-  pub choice-observed : (choice : Choice) → first_observation_at weighing system table x.pair x.price ≡ Some choice → choice_at weighing system table x ≡ Some choice
+  pub choice-observed : (choice : Choice) → first_observation_at weighing system table x.pair x.price ≡ Some choice
+      → choice_at weighing system table x ≡ Some choice
   unfolding choice_at
   choice-observed choice is = ap (λ o. option_or o (first_made (split_choice table x.pair.state x.price) (divisions x.pair.set))) is
 

@@ -61,7 +61,8 @@ closing-begins explored rows keys keyed = record {
   closed = λ system weighing starts source j key choice y before here is member. absurd (omega arith);
 }
 
-module _ (explored : Explored) (rows : List (List Price)) (old keys new : List Key) (n : ℕ) (closing : IsClosing explored rows old keys n) (key : Key) (here : StandsAt keys n key)
+module _ (explored : Explored) (rows : List (List Price)) (old keys new : List Key) (n : ℕ) (closing : IsClosing explored rows old keys n) (key : Key)
+    (here : StandsAt keys n key)
     (clauses : List SignedKey) (chosen : Chosen)
     (choice : FromEach explored (λ system weighing. choice_at weighing system (listed_at explored.pairs rows) (need_at explored.pairs rows key)
     ≡ Some (kept_choice system explored.pairs rows clauses chosen)))
@@ -107,11 +108,13 @@ module _ (explored : Explored) (rows : List (List Price)) (old keys new : List K
 
 -- closed to the end they are just what is needed
 pub closing-ends : (explored : Explored) (rows : List (List Price)) (old keys : List Key) (n : ℕ) → IsClosing explored rows old keys n → length keys ≤ n
-    → FromEach explored (λ system weighing. AreNeeded weighing system (listed_at explored.pairs rows) (needs_at explored.pairs rows old) (needs_at explored.pairs rows keys))
+    → FromEach explored (λ system weighing. AreNeeded weighing system (listed_at explored.pairs rows) (needs_at explored.pairs rows old)
+    (needs_at explored.pairs rows keys))
 closing-ends explored rows old keys n closing whole system weighing starts source x = (
   (λ member.
       let (key, there, same) = Contains-map_cases (need_at explored.pairs rows) keys x member in
-      subst (IsNeeded weighing system (listed_at explored.pairs rows) (needs_at explored.pairs rows old)) same (closing.needed system weighing starts source key there)),
+      subst (IsNeeded weighing system (listed_at explored.pairs rows) (needs_at explored.pairs rows old)) same
+      (closing.needed system weighing starts source key there)),
   needed-within weighing system (listed_at explored.pairs rows) (needs_at explored.pairs rows old) (Contains (needs_at explored.pairs rows keys))
       (λ y member.
       let (key, there, same) = Contains-map_cases (need_at explored.pairs rows) old y member in
@@ -125,6 +128,7 @@ closing-ends explored rows old keys n closing whole system weighing starts sourc
 )
 
 -- what is needed is closed
-pub needed-closed : (weighing : Weighing) (system : System) (table : Table) (wanted needs : List Need) → AreNeeded weighing system table wanted needs → AreClosed weighing system table needs
+pub needed-closed : (weighing : Weighing) (system : System) (table : Table) (wanted needs : List Need) → AreNeeded weighing system table wanted needs
+    → AreClosed weighing system table needs
 needed-closed weighing system table wanted needs needed x choice y member is takes =
     (needed y).1 (as_taken x choice y ((needed x).0 member) is takes)

@@ -17,7 +17,12 @@ use Rattle.spectro_build.specs.Choices.{Need}
 use Rattle.spectro_build.specs.Needed.{height, number_of, IsBuiltBefore}
 
 compare_numbers : (n m : ℕ) → (n < m) ⊎ ((n ≡ m) ⊎ (m < n))
-compare_numbers n m = elim (cases_lt n m) [ inl before ↦ inl before | inr after ↦ elim (cases_eq n m) [ inl same ↦ inr (inl same) | inr apart ↦ inr (inr (omega (arith, after, apart))) ] ]
+compare_numbers n m =
+    elim (cases_lt n m) [
+      | inl before ↦ inl before
+      | inr after ↦
+          elim (cases_eq n m) [ inl same ↦ inr (inl same) | inr apart ↦ inr (inr (omega (arith, after, apart))) ]
+    ]
 
 pub compare_clauses : (one other : Clause) → IsBeforeClause one other ⊎ ((one ≡ other) ⊎ IsBeforeClause other one)
 compare_clauses one other = elim (compare_numbers one.node other.node) [
@@ -54,7 +59,9 @@ number_of-stands : (pairs : List Pair) (x : Pair) → Contains pairs x → Stand
 number_of-stands [] x member = absurd (Contains-none x member)
 number_of-stands (y ∷ pairs) x member = elim (cases_Bool (is_same_pair x y)) [
   | inl same ↦ subst (λ k. StandsAt (y ∷ pairs) k x) (sym (ap (λ b. cond (not b) (1 + number_of pairs x) 0) same)) (ap Some (sym (same_pair-equal x y same)))
-  | inr apart ↦ subst (λ k. StandsAt (y ∷ pairs) k x) (sym (ap (λ b. cond (not b) (1 + number_of pairs x) 0) apart)) (subst (λ k. StandsAt (y ∷ pairs) k x) (next (number_of pairs x))
+  | inr apart ↦
+      subst (λ k. StandsAt (y ∷ pairs) k x) (sym (ap (λ b. cond (not b) (1 + number_of pairs x) 0) apart))
+      (subst (λ k. StandsAt (y ∷ pairs) k x) (next (number_of pairs x))
       (number_of-stands pairs x (elim (Contains-cases y pairs x member) [
         | inl first ↦ absurd (true≢false (sym (same_pair-itself x) ∙ (ap (is_same_pair x) (sym first) ∙ apart)))
         | inr later ↦ later
@@ -85,15 +92,17 @@ same_price e f same =
 
 module _ (pairs : List Pair) where
   pub compare_needs : (x y : Need) → Contains pairs x.pair → Contains pairs y.pair → IsBuiltBefore pairs x y ⊎ ((x ≡ y) ⊎ IsBuiltBefore pairs y x)
-  compare_needs x y here there = elim (compare_rows (height x ∷ number_of pairs x.pair ∷ parts x.price) (height y ∷ number_of pairs y.pair ∷ parts y.price) refl) [
-    | inl before ↦ inl before
-    | inr (inr after) ↦ inr (inr after)
-    | inr (inl same) ↦
-        let number : number_of pairs x.pair ≡ number_of pairs y.pair = ap (λ ns. slice_index ns 1) same in
-        let pair : x.pair ≡ y.pair = stands-one pairs (number_of pairs y.pair) x.pair y.pair (subst (λ k. StandsAt pairs k x.pair) number (number_of-stands pairs x.pair here)) (number_of-stands pairs y.pair there) in
-        let price : x.price ≡ y.price = same_price x.price y.price (ap (drop 2) same) in
-        inr (inl (λ i. record { pair = pair i; price = price i }))
-  ]
+  compare_needs x y here there =
+      elim (compare_rows (height x ∷ number_of pairs x.pair ∷ parts x.price) (height y ∷ number_of pairs y.pair ∷ parts y.price) refl) [
+        | inl before ↦ inl before
+        | inr (inr after) ↦ inr (inr after)
+        | inr (inl same) ↦
+            let number : number_of pairs x.pair ≡ number_of pairs y.pair = ap (λ ns. slice_index ns 1) same in
+            let pair : x.pair ≡ y.pair = stands-one pairs (number_of pairs y.pair) x.pair y.pair
+            (subst (λ k. StandsAt pairs k x.pair) number (number_of-stands pairs x.pair here)) (number_of-stands pairs y.pair there) in
+            let price : x.price ≡ y.price = same_price x.price y.price (ap (drop 2) same) in
+            inr (inl (λ i. record { pair = pair i; price = price i }))
+      ]
 
 -- whether two needs are the same
 decide_price : (e f : Price) → Dec (e ≡ f)

@@ -68,22 +68,23 @@ next-up one next apart is = elim (compare_rows (row_of one) (row_of next) refl) 
   | inr (inr after) ↦ absurd (true≢false (sym (smaller-less next one after) ∙ is))
 ]
 
-module _ (keys : List Key) (next : (k : ℕ) (one other : Key) → StandsAt keys k one → StandsAt keys (suc k) other → IsFirstSmaller (row_of one) (row_of other)) where
-  later-up : (n i : ℕ) (one other : Key) → StandsAt keys i one → StandsAt keys (suc i + n) other → IsFirstSmaller (row_of one) (row_of other)
-  later-up zero i one other here there =
-      let same : suc i + 0 ≡ suc i = omega arith in
-      next i one other here (subst (λ k. StandsAt keys k other) same there)
-  later-up (suc n) i one other here there =
-      let end = stands-below keys (suc i + suc n) other there in
-      let (middle, stands) = stands-some keys (suc i + n) (omega arith) in
-      let same : suc i + suc n ≡ suc (suc i + n) = omega arith in
-      IsFirstSmaller-trans (row_of one) (row_of middle) (row_of other) (later-up n i one middle here stands)
-      (next (suc i + n) middle other stands (subst (λ k. StandsAt keys k other) same there))
+module _ (keys : List Key) (next : (k : ℕ) (one other : Key) → StandsAt keys k one → StandsAt keys (suc k) other → IsFirstSmaller (row_of one) (row_of other))
+  where
+    later-up : (n i : ℕ) (one other : Key) → StandsAt keys i one → StandsAt keys (suc i + n) other → IsFirstSmaller (row_of one) (row_of other)
+    later-up zero i one other here there =
+        let same : suc i + 0 ≡ suc i = omega arith in
+        next i one other here (subst (λ k. StandsAt keys k other) same there)
+    later-up (suc n) i one other here there =
+        let end = stands-below keys (suc i + suc n) other there in
+        let (middle, stands) = stands-some keys (suc i + n) (omega arith) in
+        let same : suc i + suc n ≡ suc (suc i + n) = omega arith in
+        IsFirstSmaller-trans (row_of one) (row_of middle) (row_of other) (later-up n i one middle here stands)
+        (next (suc i + n) middle other stands (subst (λ k. StandsAt keys k other) same there))
 
-  keys-up : DoKeysRise keys
-  keys-up i j one other before here there =
-      let same : j ≡ suc i + (j - suc i) = omega arith in
-      later-up (j - suc i) i one other here (subst (λ k. StandsAt keys k other) same there)
+    keys-up : DoKeysRise keys
+    keys-up i j one other before here there =
+        let same : j ≡ suc i + (j - suc i) = omega arith in
+        later-up (j - suc i) i one other here (subst (λ k. StandsAt keys k other) same there)
 
 -- sorted keys, none of which stands twice
 pub sorted-up : (keys : List Key) → StandOnce keys

@@ -53,7 +53,8 @@ put-key keys key = by (list_any (is_same_key key) keys) refl
     }
 
 -- what was there is there
-pub kept-member : (old new : List Key) → ((i : ℕ) (other : Key) → StandsAt old i other → StandsAt new i other) → (key : Key) → Contains old key → Contains new key
+pub kept-member : (old new : List Key) → ((i : ℕ) (other : Key) → StandsAt old i other → StandsAt new i other) → (key : Key) → Contains old key
+    → Contains new key
 kept-member old new kept key member = let (i, here) = StandsIn-member old key member in Contains-stands new key (i, kept i key here)
 
 -- keys one after the other

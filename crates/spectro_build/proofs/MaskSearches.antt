@@ -38,7 +38,8 @@ module _ (pairs : List Pair) (rows : List (List Price)) (e : Price) (others : Li
     | inr now ↦
         let same : m ≡ mask = omega arith in
         subst (λ d. make d ≡ None)
-        (stands-one (divisions x.set) mask (division_at mask x.set) d (divisions-place x.set mask below) (subst (λ n. StandsAt (divisions x.set) n d) same there))
+        (stands-one (divisions x.set) mask (division_at mask x.set) d (divisions-place x.set mask below)
+        (subst (λ n. StandsAt (divisions x.set) n d) same there))
         none
   ]
 
@@ -62,7 +63,8 @@ module _ (pairs : List Pair) (rows : List (List Price)) (e : Price) (others : Li
     left-fits answer found = fitting-at pairs rows pair (subset_of x mask) as_deepest e there (stands-below pairs pair (subset_of x mask) there) row
         ∙ ap (option_map (need_at pairs rows)) (sym found)
 
-    pub left-lacks : None ≡ option_map (key_at rows pair) (position (λ f. is_at_most (as_deepest f) e) (row_at rows pair)) → make (division_at mask x.set) ≡ None
+    pub left-lacks : None ≡ option_map (key_at rows pair) (position (λ f. is_at_most (as_deepest f) e) (row_at rows pair))
+        → make (division_at mask x.set) ≡ None
     left-lacks found = split-lacks_left pairs rows (listed_at pairs rows) x.state e x.set others each mask below some (left-fits None found)
 
     pub made-some : ¬ Lacks others mask → NoneBefore mask → (key : Key)

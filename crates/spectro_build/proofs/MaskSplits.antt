@@ -83,12 +83,19 @@ module _ (pairs : List Pair) (rows : List (List Price)) (table : Table) (p : ℕ
     pub split-lacks_right : Lacks others mask → split_choice table p e d ≡ None
     split-lacks_right (i, none, clear) =
         let many : length (map (right_clause table p e) qs) ≡ length (map (option_map (clause_at pairs rows)) others) = ap length each in
-        let (q, member) = stands-some qs i (omega (arith, many, length-map qs (right_clause table p e), length-map others (option_map (clause_at pairs rows)), stands-below others i None none)) in
+        let (q, member) = stands-some qs i (omega (
+          arith,
+          many,
+          length-map qs (right_clause table p e),
+          length-map others (option_map (clause_at pairs rows)),
+          stands-below others i None none,
+        )) in
         let made = subst (λ os. StandsAt os i (right_clause table p e q)) each (stands-map (right_clause table p e) qs i q member) in
         let is : right_clause table p e q ≡ None = stands-one (map (option_map (clause_at pairs rows)) others) i (right_clause table p e q) None made
         (stands-map (option_map (clause_at pairs rows)) others i None none) in
         lacking (Contains-append_right (left_clause table p e d.left) (map (right_clause table p e) d.right) None
-        (subst (Contains (map (right_clause table p e) d.right)) is (Contains-map (right_clause table p e) d.right q (bit-right qs mask below i q member clear))))
+        (subst (Contains (map (right_clause table p e) d.right)) is
+        (Contains-map (right_clause table p e) d.right q (bit-right qs mask below i q member clear))))
 
     module _ (some : 1 ≤ mask) where
       left-one : left_clause table p e d.left ≡ option_map (with_sign true) (first_fitting table (record { state = p; set = d.left }) as_deepest e) ∷ []
@@ -99,11 +106,13 @@ module _ (pairs : List Pair) (rows : List (List Price)) (table : Table) (p : ℕ
       split-lacks_left none = lacking (Contains-append_left (left_clause table p e d.left) (map (right_clause table p e) d.right) None
           (subst (λ values. Contains values None) (sym (left-one ∙ ap (λ o. option_map (with_sign true) o ∷ []) none)) (Contains-first None [])))
 
-      pub split-there : (key : Key) → ¬ Lacks others mask → first_fitting table (record { state = p; set = d.left }) as_deepest e ≡ Some (need_at pairs rows key)
+      pub split-there : (key : Key) → ¬ Lacks others mask → first_fitting table (record { state = p; set = d.left }) as_deepest e
+          ≡ Some (need_at pairs rows key)
           → split_choice table p e d ≡ Some (split_at pairs rows (clauses_of_split others (record { mask = mask; left = Some key })))
       split-there key full fits =
           let ones = map (clause_at pairs rows) (clauses_outside mask others) in
-          ap (λ values. option_map by_split (all_there (values ++ map (right_clause table p e) d.right))) (left-one ∙ ap (λ o. option_map (with_sign true) o ∷ []) fits)
+          ap (λ values. option_map by_split (all_there (values ++ map (right_clause table p e) d.right)))
+          (left-one ∙ ap (λ o. option_map (with_sign true) o ∷ []) fits)
           ∙ ap (λ values. option_map by_split (all_there (Some (with_sign true (need_at pairs rows key)) ∷ values))) (right-there mask qs others each full)
           ∙ ap (option_map by_split) (all_there-map (with_sign true (need_at pairs rows key) ∷ ones))
 
@@ -123,8 +132,10 @@ clauses_outside-more mask [] other = append-nil (cond (eqb (mask % 2) 1) [] (opt
     ∙ ap (λ b. cond (eqb b 1) [] (option_list other)) (sym (bit_at_lowest mask))
 clauses_outside-more mask (first ∷ others) other =
     ap (λ l. cond (eqb (mask % 2) 1) [] (option_list first) ++ l) (clauses_outside-more (mask / 2) others other)
-    ∙ sym (append_assoc (cond (eqb (mask % 2) 1) [] (option_list first)) (clauses_outside (mask / 2) others) (cond (eqb (bit_at (mask / 2) (length others)) 1) [] (option_list other)))
-    ∙ ap (λ b. (cond (eqb (mask % 2) 1) [] (option_list first) ++ clauses_outside (mask / 2) others) ++ cond (eqb b 1) [] (option_list other)) (sym (bit_at-suc mask (length others)))
+    ∙ sym (append_assoc (cond (eqb (mask % 2) 1) [] (option_list first)) (clauses_outside (mask / 2) others)
+    (cond (eqb (bit_at (mask / 2) (length others)) 1) [] (option_list other)))
+    ∙ ap (λ b. (cond (eqb (mask % 2) 1) [] (option_list first) ++ clauses_outside (mask / 2) others) ++ cond (eqb b 1) [] (option_list other))
+    (sym (bit_at-suc mask (length others)))
 
 pub clauses_outside-none : (mask : ℕ) → clauses_outside mask [] ≡ []
 unfolding clauses_outside

@@ -85,9 +85,12 @@ signed-fitting pairs rows pair y sign update e here row answer found =
 -- there is no negative clause for the state itself, and for another state it is what fits
 pub negative-itself : (pairs : List Pair) (rows : List (List Price)) (p q : ℕ) (e : Price) → q ≡ p → negative_clause_at (listed_at pairs rows) e p q ≡ None
 negative-itself pairs rows p q e same =
-    ap (λ b. cond b None (option_map (with_sign false) (first_fitting (listed_at pairs rows) (record { state = q; set = p ∷ [] }) as_negative e))) (eq-eqb q p same)
+    ap (λ b. cond b None (option_map (with_sign false) (first_fitting (listed_at pairs rows) (record { state = q; set = p ∷ [] }) as_negative e)))
+    (eq-eqb q p same)
 
 pub negative-other : (pairs : List Pair) (rows : List (List Price)) (p q : ℕ) (e : Price) → q ≢ p
-    → negative_clause_at (listed_at pairs rows) e p q ≡ option_map (with_sign false) (first_fitting (listed_at pairs rows) (record { state = q; set = p ∷ [] }) as_negative e)
+    → negative_clause_at (listed_at pairs rows) e p q ≡ option_map (with_sign false)
+    (first_fitting (listed_at pairs rows) (record { state = q; set = p ∷ [] }) as_negative e)
 negative-other pairs rows p q e apart =
-    ap (λ b. cond b None (option_map (with_sign false) (first_fitting (listed_at pairs rows) (record { state = q; set = p ∷ [] }) as_negative e))) (ne_eqb q p apart)
+    ap (λ b. cond b None (option_map (with_sign false) (first_fitting (listed_at pairs rows) (record { state = q; set = p ∷ [] }) as_negative e)))
+    (ne_eqb q p apart)

@@ -63,7 +63,8 @@ module _ (system : System) (weighing : Weighing) (starts : List (ℕ × ℕ)) (e
   -- its row rises
   pub key-rises : (key : Key) → IsKey rows key → Rises (row_at rows key.pair)
   key-rises key is = subst Rises (key-row key is)
-      ((solved.solved system weighing starts source) (pair_of explored.pairs key.pair).state (pair_of explored.pairs key.pair).set (key-listed key is).reached).rises
+      ((solved.solved system weighing starts source) (pair_of explored.pairs key.pair).state (pair_of explored.pairs key.pair).set
+      (key-listed key is).reached).rises
 
   -- one key stands for it
   pub need-one : (one other : Key) → IsKey rows one → IsKey rows other → need_at explored.pairs rows one ≡ need_at explored.pairs rows other → one ≡ other

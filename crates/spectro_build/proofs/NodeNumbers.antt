@@ -28,7 +28,8 @@ pub record AreNamed (keys : List Key) (signed : List SignedKey) (clauses : List 
   pub count : length clauses ≡ n
   pub each : (j : ℕ) (one : SignedKey) (clause : Clause) → StandsAt signed j one → StandsAt clauses j clause → IsNumbered keys one clause
 
-pub named-more : (keys : List Key) (signed : List SignedKey) (clauses : List Clause) (n : ℕ) (one : SignedKey) (clause : Clause) → AreNamed keys signed clauses n
+pub named-more : (keys : List Key) (signed : List SignedKey) (clauses : List Clause) (n : ℕ) (one : SignedKey) (clause : Clause)
+    → AreNamed keys signed clauses n
     → StandsAt signed n one → IsNumbered keys one clause → AreNamed keys signed (clauses ++ clause ∷ []) (n + 1)
 named-more keys signed clauses n one clause named here numbered = record {
   count = omega (arith, length_push clauses clause, named.count);
@@ -41,35 +42,36 @@ named-more keys signed clauses n one clause named here numbered = record {
   ];
 }
 
-module _ (keys : List Key) (signed : List SignedKey) (clauses : List Clause) (named : AreNamed keys signed clauses (length signed)) (once : StandOnce keys) where
-  -- just these are the clauses
-  pub named-numbered : AreNumbered keys signed clauses
-  named-numbered clause = (
-    (λ member.
-        let (j, here) = StandsIn-member clauses clause member in
-        let (one, there) = stands-some signed j (let below = stands-below clauses j clause here in omega (arith, below, named.count)) in
-        (one, Contains-stands signed one (j, there), named.each j one clause there here)),
-    (λ (one, member, (sign, stands)).
-        let (j, there) = StandsIn-member signed one member in
-        let (made, here) = stands-some clauses j (let below = stands-below signed j one there in omega (arith, below, named.count)) in
-        let (signs, also) = named.each j one made there here in
-        let node : made.node ≡ clause.node = once made.node clause.node one.key also stands in
-        let positive : made.positive ≡ clause.positive = signs ∙ sym sign in
-        let same : made ≡ clause = (λ i. record { positive = positive i; node = node i }) in
-        subst (Contains clauses) same (Contains-stands clauses made (j, here))),
-  )
+module _ (keys : List Key) (signed : List SignedKey) (clauses : List Clause) (named : AreNamed keys signed clauses (length signed)) (once : StandOnce keys)
+  where
+    -- just these are the clauses
+    pub named-numbered : AreNumbered keys signed clauses
+    named-numbered clause = (
+      (λ member.
+          let (j, here) = StandsIn-member clauses clause member in
+          let (one, there) = stands-some signed j (let below = stands-below clauses j clause here in omega (arith, below, named.count)) in
+          (one, Contains-stands signed one (j, there), named.each j one clause there here)),
+      (λ (one, member, (sign, stands)).
+          let (j, there) = StandsIn-member signed one member in
+          let (made, here) = stands-some clauses j (let below = stands-below signed j one there in omega (arith, below, named.count)) in
+          let (signs, also) = named.each j one made there here in
+          let node : made.node ≡ clause.node = once made.node clause.node one.key also stands in
+          let positive : made.positive ≡ clause.positive = signs ∙ sym sign in
+          let same : made ≡ clause = (λ i. record { positive = positive i; node = node i }) in
+          subst (Contains clauses) same (Contains-stands clauses made (j, here))),
+    )
 
-  -- and no two name one node, where the keys differ
-  pub named-apart : StandOnce (keys_of_clauses signed) → (i j : ℕ) (one other : Clause) → StandsAt clauses i one → StandsAt clauses j other
-      → one.node ≡ other.node → i ≡ j
-  named-apart apart i j one other here there same =
-      let (first, at) = stands-some signed i (let below = stands-below clauses i one here in omega (arith, below, named.count)) in
-      let (second, also) = stands-some signed j (let below = stands-below clauses j other there in omega (arith, below, named.count)) in
-      let left = (named.each i first one at here).1 in
-      let right = (named.each j second other also there).1 in
-      let key : first.key ≡ second.key = stands-one keys other.node first.key second.key (subst (λ n. StandsAt keys n first.key) same left) right in
-      apart i j second.key (subst (StandsAt (keys_of_clauses signed) i) key (stands-map (λ (z : SignedKey). z.key) signed i first at))
-      (stands-map (λ (z : SignedKey). z.key) signed j second also)
+    -- and no two name one node, where the keys differ
+    pub named-apart : StandOnce (keys_of_clauses signed) → (i j : ℕ) (one other : Clause) → StandsAt clauses i one → StandsAt clauses j other
+        → one.node ≡ other.node → i ≡ j
+    named-apart apart i j one other here there same =
+        let (first, at) = stands-some signed i (let below = stands-below clauses i one here in omega (arith, below, named.count)) in
+        let (second, also) = stands-some signed j (let below = stands-below clauses j other there in omega (arith, below, named.count)) in
+        let left = (named.each i first one at here).1 in
+        let right = (named.each j second other also there).1 in
+        let key : first.key ≡ second.key = stands-one keys other.node first.key second.key (subst (λ n. StandsAt keys n first.key) same left) right in
+        apart i j second.key (subst (StandsAt (keys_of_clauses signed) i) key (stands-map (λ (z : SignedKey). z.key) signed i first at))
+        (stands-map (λ (z : SignedKey). z.key) signed j second also)
 
 -- ---- clauses that name different nodes rise where they are sorted
 abbrev nodes : List Clause → List ℕ
@@ -125,7 +127,8 @@ module _ (law : ClausesComeInOrder) where
       (λ k one next here there same.
       let differ = distinct-once nat_eq (λ n. eq-eqb n n refl) (nodes sorted) (IsDistinct-IsPermutation nat_eq flips (nodes clauses) (nodes sorted)
       (IsPermutation-map (λ (clause : Clause). clause.node) clauses sorted moved) (distinct-from clauses apart)) in
-      let twice : k ≡ suc k = differ k (suc k) next.node (subst (StandsAt (nodes sorted) k) same (stands-map (λ (clause : Clause). clause.node) sorted k one here))
+      let twice : k ≡ suc k = differ k (suc k) next.node (subst (StandsAt (nodes sorted) k) same
+      (stands-map (λ (clause : Clause). clause.node) sorted k one here))
       (stands-map (λ (clause : Clause). clause.node) sorted (suc k) next there) in
       absurd (omega (arith, twice)))
       up

@@ -75,7 +75,8 @@ module _ (system : System) (weighing : Weighing) (starts : List (ℕ × ℕ)) (e
   pub taken-before : DoKeysRise keys → (other : Key) (k : ℕ) → Contains (keys_taken signed chosen) other → StandsAt keys k other → k < i
   taken-before rise other k member there = lower-stands keys i k key other rise here there
       (let lower : height (need_at explored.pairs rows other) < height (need_at explored.pairs rows key) =
-      taken-lower weighing system (listed_at explored.pairs rows) (need_at explored.pairs rows key) made (need_at explored.pairs rows other) choice (takes other member) in
+      taken-lower weighing system (listed_at explored.pairs rows) (need_at explored.pairs rows key) made (need_at explored.pairs rows other) choice
+      (takes other member) in
       let first : key.height ≡ height (need_at explored.pairs rows key) = ap (λ (z : Key). z.height) key-is.value in
       let second : other.height ≡ height (need_at explored.pairs rows other) =
       ap (λ (z : Key). z.height) (All-contains (IsKey rows) (keys_taken signed chosen) other taken_keyed member).value in
@@ -84,7 +85,8 @@ module _ (system : System) (weighing : Weighing) (starts : List (ℕ × ℕ)) (e
 -- the keys of a split differ
 module _ (system : System) (weighing : Weighing) (starts : List (ℕ × ℕ)) (explored : Explored) (source : IsExploredFrom system weighing starts explored)
     (rows : List (List Price)) (solved : IsSolvedFrom explored rows) (key : Key) (key_is : IsKey rows key) (signed : List SignedKey) where
-  split-apart : choice_at weighing system (listed_at explored.pairs rows) (need_at explored.pairs rows key) ≡ Some (by_split (map (clause_at explored.pairs rows) signed))
+  split-apart : choice_at weighing system (listed_at explored.pairs rows) (need_at explored.pairs rows key)
+      ≡ Some (by_split (map (clause_at explored.pairs rows) signed))
       → StandOnce (keys_of_clauses signed)
   split-apart choice i j other here there =
       let (one, first, same) = stands-map_cases (λ (clause : SignedKey). clause.key) signed i other here in
@@ -105,7 +107,8 @@ module _ (system : System) (weighing : Weighing) (starts : List (ℕ × ℕ)) (e
   taken-apart Split choice i j other here there = split-apart choice i j other here there
 
   -- the node that is written is that of the choice
-  pub node-kept : (keys : List Key) → All (IsKey rows) keys → (chosen : Chosen) → All (IsKey rows) (keys_taken signed chosen) → (node : SheetNode) → IsKeptNode system keys signed chosen node
+  pub node-kept : (keys : List Key) → All (IsKey rows) keys → (chosen : Chosen) → All (IsKey rows) (keys_taken signed chosen) → (node : SheetNode)
+      → IsKeptNode system keys signed chosen node
       → IsNodeOf (needs_at explored.pairs rows keys) (kept_choice system explored.pairs rows signed chosen) node
   node-kept keys keyed (Observed seen) taken_keyed node (next, there, is) = (next, stands-map (need_at explored.pairs rows) keys next seen.next there, is)
   node-kept keys keyed Split taken_keyed node (clauses, rise, is, exact) = (
@@ -130,7 +133,8 @@ module _ (system : System) (weighing : Weighing) (starts : List (ℕ × ℕ)) (e
   )
 
 -- with one node more the nodes of one need more are there
-pub nodes-more : (weighing : Weighing) (system : System) (table : Table) (needs : List Need) (n : ℕ) (nodes more : List SheetNode) (node : SheetNode) (x : Need) (choice : Choice)
+pub nodes-more : (weighing : Weighing) (system : System) (table : Table) (needs : List Need) (n : ℕ) (nodes more : List SheetNode) (node : SheetNode) (x : Need)
+    (choice : Choice)
     → AreNodesOf weighing system table needs n nodes → more ≡ nodes ++ node ∷ [] → StandsAt needs n x → choice_at weighing system table x ≡ Some choice
     → IsNodeOf needs choice node → AreNodesOf weighing system table needs (n + 1) more
 nodes-more weighing system table needs n nodes more node x choice before longer here is made = record {

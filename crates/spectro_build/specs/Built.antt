@@ -23,7 +23,8 @@ IsNodeOf needs (by_split wanted) node =
     × ((clause : Clause) → Contains clauses clause ↔ ((one : ClauseNeed) × Contains wanted one × IsClauseFor needs one clause))
 
 -- the nodes and the numbers of those that distinguish the wanted pairs
-pub record IsBuilt (weighing : Weighing) (system : System) (pairs : List Pair) (table : Table) (wanted : List Need) (nodes : List SheetNode) (numbers : List ℕ) : Type 0 where
+pub record IsBuilt (weighing : Weighing) (system : System) (pairs : List Pair) (table : Table) (wanted : List Need) (nodes : List SheetNode)
+    (numbers : List ℕ) : Type 0 where
   -- just what is needed, each once, in order
   pub needs : List Need
   pub order : AreInOrder pairs needs

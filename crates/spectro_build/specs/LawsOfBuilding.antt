@@ -46,7 +46,8 @@ ListedPricesHaveAChoice =
 abbrev pub ChoicesTakeWhatIsListed : Type 0
 ChoicesTakeWhatIsListed =
     (weighing : Weighing) (system : System) (pairs : List Pair) (table : Table) → IsClosed system (IsOneOf pairs)
-    → (x : Need) (choice : Choice) (y : Need) → IsListed pairs table x → choice_at weighing system table x ≡ Some choice → Contains (taken choice) y → IsListed pairs table y
+    → (x : Need) (choice : Choice) (y : Need) → IsListed pairs table x → choice_at weighing system table x ≡ Some choice → Contains (taken choice) y
+    → IsListed pairs table y
 
 -- and has fewer observations and conjunctions together
 abbrev pub ChoicesDescend : Type 0
@@ -70,7 +71,8 @@ SplitsTakeEachPairOnce =
 -- a sheet is built for listed prices
 abbrev pub ListedPricesHaveASheet : Type 0
 ListedPricesHaveASheet =
-    (weighing : Weighing) (system : System) (pairs : List Pair) (table : Table) (wanted : List Need) → IsSolvedOn weighing system pairs table → All (IsListed pairs table) wanted
+    (weighing : Weighing) (system : System) (pairs : List Pair) (table : Table) (wanted : List Need) → IsSolvedOn weighing system pairs table
+    → All (IsListed pairs table) wanted
     → (nodes : List SheetNode) × (numbers : List ℕ) × IsBuilt weighing system pairs table wanted nodes numbers
 
 -- no other sheet is built of the table, and no other numbers
@@ -82,7 +84,8 @@ ATableBuildsOneSheet =
 -- nor of another solved table
 abbrev pub SolvedTablesBuildOneSheet : Type 0
 SolvedTablesBuildOneSheet =
-    (weighing : Weighing) (system : System) (pairs : List Pair) (table other : Table) → IsSolvedOn weighing system pairs table → IsSolvedOn weighing system pairs other
+    (weighing : Weighing) (system : System) (pairs : List Pair) (table other : Table) → IsSolvedOn weighing system pairs table
+    → IsSolvedOn weighing system pairs other
     → (wanted : List Need) → All (IsListed pairs table) wanted → (nodes others : List SheetNode) (numbers also : List ℕ)
     → IsBuilt weighing system pairs table wanted nodes numbers → IsBuilt weighing system pairs other wanted others also → (nodes ≡ others) × (numbers ≡ also)
 
@@ -90,12 +93,14 @@ SolvedTablesBuildOneSheet =
 abbrev pub NeedsAreLeast : Type 0
 NeedsAreLeast =
     (weighing : Weighing) (system : System) (table : Table) (wanted needs : List Need) → ((x : Need) → Contains wanted x → Contains needs x)
-    → ((x : Need) (choice : Choice) (y : Need) → Contains needs x → choice_at weighing system table x ≡ Some choice → Contains (taken choice) y → Contains needs y)
+    → ((x : Need) (choice : Choice) (y : Need) → Contains needs x → choice_at weighing system table x ≡ Some choice
+    → Contains (taken choice) y → Contains needs y)
     → (x : Need) → IsNeeded weighing system table wanted x → Contains needs x
 
 -- needs stand in order where they do by height, place of the pair, and place of the price in its list, which rises
 abbrev pub PlacesTellTheOrder : Type 0
 PlacesTellTheOrder =
     (pairs : List Pair) (table : Table) (x y : Need) (k l i j : ℕ) → StandOnce pairs → Rises (table x.pair.state x.pair.set)
-    → StandsAt pairs k x.pair → StandsAt pairs l y.pair → StandsAt (table x.pair.state x.pair.set) i x.price → StandsAt (table y.pair.state y.pair.set) j y.price
+    → StandsAt pairs k x.pair → StandsAt pairs l y.pair → StandsAt (table x.pair.state x.pair.set) i x.price
+    → StandsAt (table y.pair.state y.pair.set) j y.price
     → IsFirstSmaller (height x ∷ k ∷ i ∷ []) (height y ∷ l ∷ j ∷ []) → IsBuiltBefore pairs x y

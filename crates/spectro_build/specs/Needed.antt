@@ -12,7 +12,8 @@ use Rattle.spectro_build.specs.Choices.{Need, Choice, choice_at, taken}
 -- it is wanted, or the choice for something needed takes it
 pub data IsNeeded (weighing : Weighing) (system : System) (table : Table) (wanted : List Need) : Need → Type 0 where
   as_wanted : (x : Need) → Contains wanted x → IsNeeded weighing system table wanted x
-  as_taken : (x : Need) (choice : Choice) (y : Need) → IsNeeded weighing system table wanted x → choice_at weighing system table x ≡ Some choice → Contains (taken choice) y
+  as_taken : (x : Need) (choice : Choice) (y : Need) → IsNeeded weighing system table wanted x → choice_at weighing system table x ≡ Some choice
+      → Contains (taken choice) y
       → IsNeeded weighing system table wanted y
 
 -- these are just what is needed

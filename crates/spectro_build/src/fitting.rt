@@ -16,7 +16,8 @@ use spectro_solve::Table;
 pub(crate) fn first_fitting(table: &Table, pair: u32, role: Role, e: Energy) -> Option<Key>
     requires pair { pair < length table.now.rows }
     requires room { HaveRoom table.now.rows }
-    ensures value { result ≡ option_map (key_at table.now.rows pair) (position (λ f. is_at_most (cost_in role f) (price_of e.parts)) (row_at table.now.rows pair)) }
+    ensures value { result ≡ option_map (key_at table.now.rows pair)
+        (position (λ f. is_at_most (cost_in role f) (price_of e.parts)) (row_at table.now.rows pair)) }
     ensures key { IfSome result (λ key. IsKey table.now.rows key) }
 {
     let prices = table.least(pair);

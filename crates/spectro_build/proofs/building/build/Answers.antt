@@ -11,7 +11,8 @@ use Rattle.spectro_build.proofs.Closings.{needed-closed}
 use Rattle.spectro_build.proofs.building.build.Goals as goal
 
 pub close-requires-clause-room : goal.close-requires-clause-room
-close-requires-clause-room c = solved-room c.args.arena.now c.args.table.now.rows c.requires.solved (omega (arith, c.pair_count.ensures.value, c.if-prove.false))
+close-requires-clause-room c =
+    solved-room c.args.arena.now c.args.table.now.rows c.requires.solved (omega (arith, c.pair_count.ensures.value, c.if-prove.false))
 
 pub close-requires-clause-keys : goal.close-requires-clause-keys
 close-requires-clause-keys c = put-keyed c.args.table.now.rows c.deref.result.now c.in_ok-needs.needs c.in_ok-needs.ensures

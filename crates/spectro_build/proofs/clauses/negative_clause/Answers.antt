@@ -39,4 +39,5 @@ returns-clause-value c system weighing starts source x q here member =
     let row = listed-at system weighing starts c.args.arena.now source rows c.in_ok-turned.turned turned [] there
     (omega (arith, stands-below pairs c.in_ok-turned.turned turned there, c.requires.rows)) in
     negative-other pairs rows x.state q (price_of c.args.e.parts) apart
-    ∙ signed-fitting pairs rows c.in_ok-turned.turned turned false as_negative (price_of c.args.e.parts) there row (Some c.in_ok-key.key) c.in_ok-key.ensures.value
+    ∙ signed-fitting pairs rows c.in_ok-turned.turned turned false as_negative (price_of c.args.e.parts) there row (Some c.in_ok-key.key)
+    c.in_ok-key.ensures.value

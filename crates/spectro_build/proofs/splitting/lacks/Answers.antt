@@ -15,15 +15,23 @@ is_missing (Some x) is = absurd (true≢false is)
 pub returns-then-mask-i-eq0 : goal.returns-then-mask-i-eq0
 returns-then-mask-i-eq0 c =
     let within : c.loop-i.i < length c.args.others.now = omega arith in
-    let missing = is_missing (get_or c.args.others.now c.loop-i.i None) (c.is_none.ensures ∙ ap not c.if-is_none.true) in
-    ((λ _. (c.loop-i.i, slice_get-get_or c.args.others.now c.loop-i.i None within ∙ ap Some missing, sym (shr_and_one c.args.mask c.loop-i.i) ∙ c.if-mask-i-eq0.true)), (λ _. refl))
+    let missing = is_missing (get_or c.args.others.now c.loop-i.i None) (c.is_none.ensures ∙ ap not c.if-is_none.true) in (
+      (λ _. (
+        c.loop-i.i,
+        slice_get-get_or c.args.others.now c.loop-i.i None within ∙ ap Some missing,
+        sym (shr_and_one c.args.mask c.loop-i.i)
+            ∙ c.if-mask-i-eq0.true,
+      )),
+      (λ _. refl),
+    )
 
 pub loop-i-preserved : goal.loop-i-preserved
 loop-i-preserved c j under none clear = elim (cases_lt j c.loop-i.i) [
   | inl earlier ↦ c.loop-i.invariant j earlier none clear
   | inr now ↦
       let same : j ≡ c.loop-i.i = omega arith in
-      let here : get_or c.args.others.now c.loop-i.i None ≡ None = get_or_from_slice_get c.args.others.now c.loop-i.i None None (subst (λ n. slice_get c.args.others.now n ≡ Some None) same none) in
+      let here : get_or c.args.others.now c.loop-i.i None ≡ None =
+      get_or_from_slice_get c.args.others.now c.loop-i.i None None (subst (λ n. slice_get c.args.others.now n ≡ Some None) same none) in
       let bit : bit_at c.args.mask c.loop-i.i ≡ 0 = subst (λ n. bit_at c.args.mask n ≡ 0) same clear in
       elim c.else-is_none.branch [
         | else-is_none-via-then-is_none+else-mask-i-eq0 w ↦ w.if-mask-i-eq0.false (shr_and_one c.args.mask c.loop-i.i ∙ bit)
@@ -32,4 +40,8 @@ loop-i-preserved c j under none clear = elim (cases_lt j c.loop-i.i) [
 ]
 
 pub returns : goal.returns
-returns c = ((λ is. absurd (true≢false (sym is))), (λ (i, none, clear). absurd (c.loop-i.invariant i (let within = slice_get_within c.args.others.now i None none in omega arith) none clear)))
+returns c = (
+  (λ is. absurd (true≢false (sym is))),
+  (λ (i, none, clear). absurd
+      (c.loop-i.invariant i (let within = slice_get_within c.args.others.now i None none in omega arith) none clear)),
+)
