@@ -1,26 +1,12 @@
 ghost use Rattle.std.specs.Prelude.{◌≡◌, ◌<◌, ◌≤◌, ◌+◌, ◌*◌, length, IfOk};
 
-use crate::samples::{add, system};
+use crate::samples::{BOTH_AND_EITHER, ONE_STEP, add, system};
 use spectro_lts::{Draft, Lts};
 use spectro_pairs::{Arena, ExploreError, Observation, explore};
 use spectro_weights::Weights;
 use std::alloc::{AllocError, Global};
 use std::process::Abort;
 use std::test::Fail;
-
-// A step under a, and a state without steps.
-const ONE_STEP: [(u32, char, u32); 1] = [(0, 'a', 1)];
-
-// After a, both b and c, and after a, either b or c. The labels are numbered c, a, b.
-const BOTH_AND_EITHER: [(u32, char, u32); 7] = [
-    (5, 'c', 6),
-    (4, 'a', 5),
-    (5, 'b', 6),
-    (0, 'a', 2),
-    (0, 'a', 1),
-    (1, 'b', 3),
-    (2, 'c', 3),
-];
 
 // What comes of exploring the pair of the two states.
 fn explore_pair(

@@ -6,6 +6,20 @@ use spectro_lts::{Draft, Lts};
 use std::alloc::Global;
 use std::test::Fail;
 
+// A step under a, and a state without steps.
+pub(crate) const ONE_STEP: [(u32, char, u32); 1] = [(0, 'a', 1)];
+
+// After a, both b and c, and after a, either b or c. The labels are numbered c, a, b.
+pub(crate) const BOTH_AND_EITHER: [(u32, char, u32); 7] = [
+    (5, 'c', 6),
+    (4, 'a', 5),
+    (5, 'b', 6),
+    (0, 'a', 2),
+    (0, 'a', 1),
+    (1, 'b', 3),
+    (2, 'c', 3),
+];
+
 // The label of one letter.
 pub(crate) fn label(letter: char) -> &'static str
     ensures { IsLabel result.now }

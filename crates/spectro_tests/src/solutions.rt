@@ -1,7 +1,7 @@
 ghost use Rattle.std.specs.Prelude.{◌≡◌, ◌<◌, ◌≤◌, length, IfOk};
 ghost use Rattle.spectro_solve.specs.Solving.{IsArenaOf};
 
-use crate::samples::system;
+use crate::samples::{BOTH_AND_EITHER, ONE_STEP, system};
 use spectro_lts::Lts;
 use spectro_pairs::{Arena, explore};
 use spectro_solve::{Steps, Table, solve};
@@ -11,20 +11,6 @@ use std::marker::Brand;
 use std::process::Abort;
 use std::sync::ledger::{Blank, Ledger};
 use std::test::Fail;
-
-// A step under a, and a state without steps.
-const ONE_STEP: [(u32, char, u32); 1] = [(0, 'a', 1)];
-
-// After a, both b and c, and after a, either b or c.
-const BOTH_AND_EITHER: [(u32, char, u32); 7] = [
-    (5, 'c', 6),
-    (4, 'a', 5),
-    (5, 'b', 6),
-    (0, 'a', 2),
-    (0, 'a', 1),
-    (1, 'b', 3),
-    (2, 'c', 3),
-];
 
 // The table of the arena.
 fn table<L: Ledger>(
