@@ -10,6 +10,8 @@ mod aut_texts;
 #[cfg(test)]
 mod batches;
 #[cfg(test)]
+mod built;
+#[cfg(test)]
 mod demos;
 #[cfg(test)]
 mod devices;
