@@ -65,7 +65,11 @@ impl Known {
         ensures width { self.new.width ≡ self.old.width }
     {
         self.puts = self.puts.saturating_add(1);
-        let most = self.puts.saturating_mul(SPREAD).saturating_add(FIRST).min(self.most);
+        let most = self
+            .puts
+            .saturating_mul(SPREAD)
+            .saturating_add(FIRST)
+            .min(self.most);
         if self.places.len() <= place && place < most {
             let count = place.saturating_mul(2).max(FIRST).min(most);
             let _ = self.places.resize(count, 0);
