@@ -1,3 +1,4 @@
+-- The members are gone through up to the first that has no clause and is not in the mask.
 use Rattle.std.proofs.Common.{◌≡◌, ◌∙◌, ◌<◌, inl, inr, length, get_or, sym, ap, subst, refl, arith, Option, None, Some, false, not, slice_get}
 use Rattle.std.specs.Int.{bit_at}
 use Rattle.std.specs.Option.{is_some}
@@ -15,15 +16,9 @@ is_missing (Some x) is = absurd (true≢false is)
 pub returns-then-mask-i-eq0 : goal.returns-then-mask-i-eq0
 returns-then-mask-i-eq0 c =
     let within : c.loop-i.i < length c.args.others.now = omega arith in
-    let missing = is_missing (get_or c.args.others.now c.loop-i.i None) (c.is_none.ensures ∙ ap not c.if-is_none.true) in (
-      (λ _. (
-        c.loop-i.i,
-        slice_get-get_or c.args.others.now c.loop-i.i None within ∙ ap Some missing,
-        sym (shr_and_one c.args.mask c.loop-i.i)
-            ∙ c.if-mask-i-eq0.true,
-      )),
-      (λ _. refl),
-    )
+    let missing = is_missing (get_or c.args.others.now c.loop-i.i None) (c.is_none.ensures ∙ ap not c.if-is_none.true) in
+    let clear : bit_at c.args.mask c.loop-i.i ≡ 0 = sym (shr_and_one c.args.mask c.loop-i.i) ∙ c.if-mask-i-eq0.true in
+    ((λ _. (c.loop-i.i, slice_get-get_or c.args.others.now c.loop-i.i None within ∙ ap Some missing, clear)), (λ _. refl))
 
 pub loop-i-preserved : goal.loop-i-preserved
 loop-i-preserved c j under none clear = elim (cases_lt j c.loop-i.i) [
@@ -42,6 +37,7 @@ loop-i-preserved c j under none clear = elim (cases_lt j c.loop-i.i) [
 pub returns : goal.returns
 returns c = (
   (λ is. absurd (true≢false (sym is))),
-  (λ (i, none, clear). absurd
-      (c.loop-i.invariant i (let within = slice_get_within c.args.others.now i None none in omega arith) none clear)),
+  (λ (i, none, clear).
+      let within = slice_get_within c.args.others.now i None none in
+      absurd (c.loop-i.invariant i (omega arith) none clear)),
 )
