@@ -5,3 +5,4 @@ pub mod Reporting
 pub mod SameVerdicts
 pub mod OneReport
 pub mod PutLines
+pub mod Sections

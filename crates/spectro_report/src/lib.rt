@@ -7,9 +7,11 @@ mod error;
 mod reported;
 mod verdict;
 mod verdict_line;
+mod writer;
 
 pub use compare::report;
 pub use error::ReportError;
 pub use reported::Report;
 pub use verdict::{MAX_INLINE_BYTES, Shown, Verdict};
 pub use verdict_line::put_verdict;
+pub use writer::text;

@@ -1,5 +1,4 @@
 ghost use Rattle.std.specs.Prelude.{◌≡◌, ◌<◌, length, map, slice_get, Some};
-ghost use Rattle.spectro_report.specs.Kept.{extent_in};
 ghost use Rattle.spectro_report.specs.Verdicts.{verdict_of};
 
 use crate::Verdict;
@@ -101,14 +100,16 @@ impl Report {
 
     /// How large the left system is.
     pub(crate) fn left(&self) -> Extent
-        ensures { extent_in result ≡ self.now.left }
+        ensures states { result.states ≡ self.now.left.states }
+        ensures transitions { result.transitions ≡ self.now.left.transitions }
     {
         self.left
     }
 
     /// How large the right system is.
     pub(crate) fn right(&self) -> Extent
-        ensures { extent_in result ≡ self.now.right }
+        ensures states { result.states ≡ self.now.right.states }
+        ensures transitions { result.transitions ≡ self.now.right.transitions }
     {
         self.right
     }
