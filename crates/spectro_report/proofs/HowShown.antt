@@ -1,5 +1,5 @@
 -- How a formula is shown: in one way, and no other.
-use Rattle.std.proofs.Common.{inl, inr, ◌≡◌, ◌∙◌, ◌≤◌, ◌<◌, length, ap, sym, refl, arith}
+use Rattle.std.proofs.Common.{inl, inr, ◌≡◌, ◌∙◌, length, ap, sym, refl, arith}
 use Rattle.std.proofs.lemmas.Bool.{cases_lt}
 use Rattle.spectro_spec.specs.Formula.{Formula}
 use Rattle.spectro_hmltext.specs.Printed.{formula_text}

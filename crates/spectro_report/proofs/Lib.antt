@@ -1,7 +1,16 @@
 pub mod Finding
+pub mod Searching
+pub mod Asking
 pub mod HowShown
 pub mod Telling
+pub mod TellingOn
+pub mod Numbered
+pub mod Saying
+pub mod Comparing
+pub mod Following
+pub mod Refusing
 pub mod Reporting
+pub mod Existing
 pub mod SameVerdicts
 pub mod OneReport
 pub mod PutLines

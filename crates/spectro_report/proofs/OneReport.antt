@@ -2,7 +2,6 @@
 use Rattle.std.proofs.Common.{inl, inr, ◌≡◌, ◌∙◌, ◌+◌, ◌-◌, ◌^◌, ℕ, zero, suc, List, [], ◌∷◌, ◌++◌, All, Contains, length, min, ap, sym, subst, refl, arith}
 use Rattle.std.specs.List.{sum_by}
 use Rattle.std.proofs.lemmas.List.{append_cancel_left}
-use Rattle.std.proofs.Math.Seq.{take-append_seam}
 use Rattle.spectro_spec.specs.System.{System, join}
 use Rattle.spectro_spec.specs.Weighing.{Weighing}
 use Rattle.spectro_spec.specs.Price.{Price}
@@ -10,6 +9,7 @@ use Rattle.spectro_spec.specs.Notion.{Notion}
 use Rattle.spectro_spec.specs.LeastPrices.{AreLeastPrices}
 use Rattle.spectro_spec.proofs.Members.{Contains-cases, Contains-none}
 use Rattle.spectro_game.specs.Pairs.{Pair}
+use Rattle.spectro_game.specs.Pairs as game
 use Rattle.spectro_game.specs.Reached.{StandsAt}
 use Rattle.spectro_theory.specs.LawsOfPairs.{ReachedPairsAreOne}
 use Rattle.spectro_theory.proofs.LeastLists.{one_least}
@@ -18,7 +18,7 @@ use Rattle.spectro_build.specs.Built.{IsBuilt}
 use Rattle.spectro_build.specs.LawsOfBuilding.{IsSolvedOn, IsListed, SolvedTablesBuildOneSheet}
 use Rattle.spectro_report.specs.Compared.{AreCompared, initial_of_right, forth_pair, back_pair}
 use Rattle.spectro_report.specs.LawsOfReports.{ReportsAreOne}
-use Rattle.spectro_report.specs.Reports.{AreEnergies, IsReport, IsSheetOf, Report, needs_told, nodes_told, prices_told}
+use Rattle.spectro_report.specs.Reports.{AreEnergies, IsReport, Report, needs_at, needs_told, nodes_told, prices_told}
 use Rattle.spectro_report.specs.Verdicts.{Verdict, holds, fails, AreVerdicts}
 use Rattle.spectro_report.proofs.Finding.{first-member}
 use Rattle.spectro_report.proofs.Reporting.{back_reached, forth_reached, needs-listed, told-long}
@@ -69,3 +69,79 @@ module _ (weighing : Weighing) (system : System) where
         (first-member are.0.prices notion.bound f are.0.first))
     | inr later ↦ fails-least p q nodes es least table verdicts are.1 e later
   ]
+
+module _ (weighing : Weighing) (left right : System) (table : List Notion) (one other : Report) (is : IsReport weighing left right table one)
+    (also : IsReport weighing left right table other) (same : is.pairs ≡ also.pairs) (once : SolvedTablesBuildOneSheet) where
+  -- both fail at the same prices
+  forth_prices : prices_told one.forth ≡ prices_told other.forth
+  forth_prices = same_prices weighing (join left right) left.initial (initial_of_right left right) one.nodes other.nodes table one.forth other.forth is.forth
+      also.forth
+
+  back_prices : prices_told one.back ≡ prices_told other.back
+  back_prices = same_prices weighing (join left right) (initial_of_right left right) left.initial one.nodes other.nodes table one.back other.back is.back
+      also.back
+
+  needs : needs_told left right other.forth other.back ≡ needs_told left right one.forth one.back
+  needs i = needs_at (forth_pair left right) (sym forth_prices i) ++ needs_at (back_pair left right) (sym back_prices i)
+
+  listed : All (IsListed is.pairs is.sheet.table) (needs_told left right one.forth one.back)
+  listed =
+      let forth = forth_reached weighing left right is.pairs is.compared in
+      let back = back_reached weighing left right is.pairs is.compared in
+      needs-listed is.pairs is.sheet.table (forth_pair left right) (back_pair left right) (prices_told one.forth) (prices_told one.back) forth back
+      (fails-least weighing (join left right) left.initial (initial_of_right left right) one.nodes _
+      (is.sheet.solved.least left.initial (initial_of_right left right ∷ []) forth) table one.forth is.forth)
+      (fails-least weighing (join left right) (initial_of_right left right) left.initial one.nodes _
+      (is.sheet.solved.least (initial_of_right left right) (left.initial ∷ []) back) table one.back is.back)
+
+  -- so the sheet and its nodes are the same
+  sheets : (one.nodes ≡ other.nodes) × (nodes_told one.forth ++ nodes_told one.back ≡ nodes_told other.forth ++ nodes_told other.back)
+  sheets =
+      once weighing (join left right) is.pairs is.sheet.table also.sheet.table is.sheet.solved
+      (subst (λ xs. IsSolvedOn weighing (join left right) xs also.sheet.table) (sym same) also.sheet.solved)
+      (needs_told left right one.forth one.back) listed one.nodes other.nodes (nodes_told one.forth ++ nodes_told one.back)
+      (nodes_told other.forth ++ nodes_told other.back) is.sheet.built
+      (subst (λ wanted. IsBuilt weighing (join left right) is.pairs also.sheet.table wanted other.nodes (nodes_told other.forth ++ nodes_told other.back)) needs
+      (subst (λ xs. IsBuilt weighing (join left right) xs also.sheet.table (needs_told left right other.forth other.back) other.nodes
+      (nodes_told other.forth ++ nodes_told other.back)) (sym same) also.sheet.built))
+
+  fronts : nodes_told one.forth ≡ nodes_told other.forth
+  fronts = same_front (nodes_told one.forth) (nodes_told one.back) (nodes_told other.forth) (nodes_told other.back)
+      (told-long one.forth ∙ ap length forth_prices ∙ sym (told-long other.forth)) sheets.1
+
+  backs : nodes_told one.back ≡ nodes_told other.back
+  backs = append_cancel_left (nodes_told other.forth) (nodes_told one.back) (nodes_told other.back)
+      (ap (λ front. front ++ nodes_told one.back) (sym fronts) ∙ sheets.1)
+
+  forths : one.forth ≡ other.forth
+  forths = same_verdicts weighing (join left right) left.initial (initial_of_right left right) one.nodes table one.forth other.forth is.forth
+      (subst (λ nodes. AreVerdicts weighing (join left right) left.initial (initial_of_right left right) nodes table other.forth) (sym sheets.0) also.forth)
+      fronts
+
+  backs_said : one.back ≡ other.back
+  backs_said = same_verdicts weighing (join left right) (initial_of_right left right) left.initial one.nodes table one.back other.back is.back
+      (subst (λ nodes. AreVerdicts weighing (join left right) (initial_of_right left right) left.initial nodes table other.back) (sym sheets.0) also.back)
+      backs
+
+  pub same_report : one ≡ other
+  same_report =
+      let left-is : one.left ≡ other.left = is.left_extent ∙ sym also.left_extent in
+      let right-is : one.right ≡ other.right = is.right_extent ∙ sym also.right_extent in
+      let count-is : one.pairs ≡ other.pairs = is.count ∙ ap length same ∙ sym also.count in
+      let size-is : one.size ≡ other.size = is.size ∙ ap game.size same ∙ sym also.size in
+      let energies-is : one.energies ≡ other.energies = same_energies weighing (join left right) is.pairs one.energies other.energies is.energies
+      (subst (λ xs. AreEnergies weighing (join left right) xs other.energies) (sym same) also.energies) in
+      λ i. record {
+        left = left-is i;
+        right = right-is i;
+        pairs = count-is i;
+        size = size-is i;
+        energies = energies-is i;
+        forth = forths i;
+        back = backs_said i;
+        nodes = sheets.0 i;
+      }
+
+pub one_report : ReachedPairsAreOne → SolvedTablesBuildOneSheet → ReportsAreOne
+one_report pairs_one once weighing left right table one other is also = same_report weighing left right table one other is also
+    (pairs_one (join left right) (forth_pair left right ∷ []) is.pairs also.pairs is.compared also.compared) once

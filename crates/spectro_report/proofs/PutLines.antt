@@ -7,7 +7,7 @@ use Rattle.spectro_spec.specs.Notion.{Notion}
 use Rattle.spectro_energy.specs.declared.parts.Parts.{Parts}
 use Rattle.spectro_notation.specs.Prices.{price_text}
 use Rattle.spectro_report.specs.Reports.{Extent, Report}
-use Rattle.spectro_report.specs.Texts.{answer_text, equivalence_line, equivalence_lines, game_line, is_equivalence, nodes_part, report_text, shown_text, side_line, verdict_line, verdict_lines}
+use Rattle.spectro_report.specs.Texts.{answer_text, equivalence_line, equivalence_lines, extents_text, game_line, is_equivalence, nodes_part, report_text, shown_text, side_line, verdict_line, verdict_lines}
 use Rattle.spectro_report.specs.Verdicts.{Verdict, fails}
 use Rattle.spectro_report.specs.declared.verdict.Shown.{Shown}
 
@@ -30,7 +30,7 @@ three-pieces : (held first second third : List ℕ) → held ++ (first ++ second
 three-pieces held first second third = simp append_assoc
 
 pub extents-pieces : (held : List ℕ) (report : Report)
-    → held ++ (side_line (codes "left") report.left ++ side_line (codes "right") report.right ++ game_line report)
+    → held ++ extents_text report
     ≡ ((held ++ side_line (codes "left") report.left) ++ side_line (codes "right") report.right) ++ game_line report
 extents-pieces held report = three-pieces held (side_line (codes "left") report.left) (side_line (codes "right") report.right) (game_line report)
 
@@ -44,13 +44,8 @@ pub equivalence-pieces : (held name : List ℕ) (forth back : Verdict)
     → held ++ equivalence_line name forth back ≡ (held ++ name) ++ answer_text (is_equivalence forth back)
 equivalence-pieces held name forth back = simp append_assoc
 
-ten-pieces : (a b c d e f g h i j : List ℕ)
-    → a ++ b ++ c ++ d ++ e ++ f ++ g ++ h ++ i ++ j ≡ ((((a ++ b ++ c) ++ (d ++ e)) ++ (f ++ g)) ++ (h ++ i)) ++ j
-ten-pieces a b c d e f g h i j = simp append_assoc
-
--- the lines of both sides and of the game
-abbrev pub extents_text : Report → List ℕ
-extents_text report = side_line (codes "left") report.left ++ side_line (codes "right") report.right ++ game_line report
+eight-pieces : (a b c d e f g h : List ℕ) → a ++ b ++ c ++ d ++ e ++ f ++ g ++ h ≡ (((a ++ (b ++ c)) ++ (d ++ e)) ++ (f ++ g)) ++ h
+eight-pieces a b c d e f g h = simp append_assoc
 
 -- a title and the lines of its verdicts
 abbrev pub section_text : List ℕ → Parts → List Notion → List Verdict → List ℕ
@@ -65,6 +60,5 @@ pub report-pieces : (table : List Notion) (parts : Parts) (report : Report)
     ≡ (((extents_text report ++ section_text (codes "left to right\n") parts table report.forth) ++
     section_text (codes "right to left\n") parts table report.back) ++ equivalences_text table report) ++ nodes_part report
 report-pieces table parts report =
-    ten-pieces (side_line (codes "left") report.left) (side_line (codes "right") report.right) (game_line report) (codes "left to right\n")
-    (verdict_lines parts table report.forth) (codes "right to left\n") (verdict_lines parts table report.back) (codes "equivalences\n")
+    eight-pieces (extents_text report) (codes "left to right\n") (verdict_lines parts table report.forth) (codes "right to left\n") (verdict_lines parts table report.back) (codes "equivalences\n")
     (equivalence_lines table report.forth report.back) (nodes_part report)

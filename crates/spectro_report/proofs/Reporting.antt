@@ -26,10 +26,11 @@ use Rattle.spectro_build.specs.Choices.{Need}
 use Rattle.spectro_build.specs.Built.{IsBuilt}
 use Rattle.spectro_build.specs.LawsOfBuilding.{IsSolvedOn, IsListed, BuiltNodesAreExact}
 use Rattle.spectro_report.specs.Compared.{AreCompared, initial_of_right, forth_pair, back_pair}
-use Rattle.spectro_report.specs.Firsts.{AreFirsts, AreTold, IsTold, prices_found}
+use Rattle.spectro_report.specs.Firsts.{AreSides, AreTold, prices_found}
 use Rattle.spectro_report.specs.Reports.{AreEnergies, IsReport, Report, extent_of, needs_at, needs_told, nodes_told, prices_told}
 use Rattle.spectro_report.specs.Verdicts.{Verdict, holds, fails}
 use Rattle.spectro_report.proofs.Finding.{found-member}
+use Rattle.spectro_report.proofs.Numbered.{needs-long}
 use Rattle.spectro_report.proofs.Telling.{AreExact, prices_told-found, told-verdicts}
 
 -- as many nodes are named as prices
@@ -37,10 +38,6 @@ pub told-long : (verdicts : List Verdict) → length (nodes_told verdicts) ≡ l
 told-long [] = refl
 told-long (holds ∷ verdicts) = told-long verdicts
 told-long (fails e k shown ∷ verdicts) = omega (arith, told-long verdicts)
-
-needs-long : (x : Pair) (es : List Price) → length (needs_at x es) ≡ length es
-needs-long x [] = refl
-needs-long x (e ∷ es) = omega (arith, needs-long x es)
 
 -- the need of a price stands where the price does
 needs-at : (x : Pair) (es : List Price) (i : ℕ) (e : Price) → StandsAt es i e → StandsAt (needs_at x es) i (record { pair = x; price = e })
@@ -100,12 +97,6 @@ module _ (weighing : Weighing) (left right : System) (pairs : List Pair) (compar
           (solved x.state x.set (Contains-stands pairs x (k, here)));
       sum = sum;
     }
-
--- what was found from p to q in the list of their least prices, and the verdicts that tell it
-pub record AreSides (table : List Notion) (es : List Price) (nodes : List SheetNode) (verdicts : List Verdict) : Type 0 where
-  pub firsts : List (Option Price)
-  pub found : AreFirsts es table firsts
-  pub told : AllZip (IsTold nodes) firsts verdicts
 
 -- what is told of a side is listed
 told-listed : (table : List Notion) (es : List Price) (nodes : List SheetNode) (verdicts : List Verdict) → AreSides table es nodes verdicts

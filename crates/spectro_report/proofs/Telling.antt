@@ -1,5 +1,5 @@
 -- Verdicts that tell what was found are so.
-use Rattle.std.proofs.Common.{◌≡◌, ◌∙◌, ◌<◌, ℕ, zero, suc, List, [], ◌∷◌, length, ap, refl, arith}
+use Rattle.std.proofs.Common.{◌≡◌, ◌∙◌, ◌<◌, ℕ, zero, suc, List, [], ◌∷◌, ◌++◌, length, ap, sym, subst, refl, arith}
 use Rattle.std.specs.Prelude.{Option, Some, None}
 use Rattle.std.specs.List.{AllZip}
 use Rattle.spectro_spec.specs.System.{System}
@@ -11,10 +11,11 @@ use Rattle.spectro_game.specs.Reached.{StandsAt}
 use Rattle.spectro_theory.specs.LawsOfSteps.{IsOfPrice}
 use Rattle.spectro_theory.proofs.Readings.{Holds-iff}
 use Rattle.spectro_hml.specs.Sheets.{SheetNode, unfolded}
-use Rattle.spectro_report.specs.Firsts.{AreFirsts, IsTold, AreTold, prices_found}
+use Rattle.spectro_report.specs.Firsts.{AreFirsts, IsPutLast, IsTold, AreTold, prices_found}
 use Rattle.spectro_report.specs.Reports.{prices_told, nodes_told}
 use Rattle.spectro_report.specs.Verdicts.{Verdict, holds, fails, AreVerdicts}
 use Rattle.spectro_report.proofs.HowShown.{some_shown}
+use Rattle.spectro_report.proofs.Searching.{AllZip-more}
 
 -- notions are said to fail at the prices that were found
 pub prices_told-found : (nodes : List SheetNode) (firsts : List (Option Price)) (verdicts : List Verdict) → AllZip (IsTold nodes) firsts verdicts
@@ -27,6 +28,20 @@ prices_told-found nodes (None ∷ firsts) (fails e k shown ∷ verdicts) told = 
 prices_told-found nodes (Some f ∷ firsts) (holds ∷ verdicts) told = absurd told.0
 prices_told-found nodes (Some f ∷ firsts) (fails e k shown ∷ verdicts) told =
     ap (λ g. g ∷ prices_told verdicts) told.0.0 ∙ ap (λ es. f ∷ es) (prices_told-found nodes firsts verdicts told.1)
+
+-- with one more
+nodes_told-more : (verdicts : List Verdict) (verdict : Verdict) → nodes_told (verdicts ++ verdict ∷ []) ≡ nodes_told verdicts ++ nodes_told (verdict ∷ [])
+nodes_told-more [] verdict = refl
+nodes_told-more (holds ∷ verdicts) verdict = nodes_told-more verdicts verdict
+nodes_told-more (fails e k shown ∷ verdicts) verdict = ap (λ ks. k ∷ ks) (nodes_told-more verdicts verdict)
+
+pub told-more : (nodes : List SheetNode) (firsts : List (Option Price)) (first : Option Price) (numbers more : List ℕ) (old new : List Verdict)
+    → AreTold nodes firsts numbers old → IsPutLast nodes first more old new → AreTold nodes (firsts ++ first ∷ []) (numbers ++ more) new
+told-more nodes firsts first numbers more old new told last = record {
+  each = subst (AllZip (IsTold nodes) (firsts ++ first ∷ [])) (sym last.last)
+      (AllZip-more (IsTold nodes) firsts old first last.verdict told.each last.told);
+  named = ap nodes_told last.last ∙ nodes_told-more old last.verdict ∙ (λ i. told.named i ++ last.named i);
+}
 
 -- the formula of each node that is named distinguishes at the price for which it is
 abbrev pub AreExact : Weighing → System → ℕ → ℕ → List SheetNode → List Price → List ℕ → Type 0

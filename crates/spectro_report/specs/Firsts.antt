@@ -1,5 +1,5 @@
 -- What is found for the notions of a table in a list of least prices, and the verdicts that tell it.
-use Rattle.std.specs.Prelude.{ℕ, ◌≡◌, ◌<◌, List, Option, Some, None, Contains, length, map}
+use Rattle.std.specs.Prelude.{ℕ, ◌≡◌, ◌<◌, List, [], ◌∷◌, ◌++◌, Option, Some, None, Contains, length, map}
 use Rattle.std.specs.List.{AllZip, filter_map}
 use Rattle.std.specs.Option.{option_map}
 use Rattle.spectro_spec.specs.Price.{Price}
@@ -7,6 +7,7 @@ use Rattle.spectro_spec.specs.Notion.{Bound, Notion, IsWithin}
 use Rattle.spectro_theory.specs.LawsOfNotions.{IsFirstWithin}
 use Rattle.spectro_energy.specs.Energy.{price_of}
 use Rattle.spectro_energy.specs.declared.energy.Energy.{Energy}
+use Rattle.spectro_build.specs.declared.wanted.Wanted.{Wanted}
 use Rattle.spectro_hml.specs.Sheets.{SheetNode, unfolded}
 use Rattle.spectro_report.specs.Reports.{nodes_told}
 use Rattle.spectro_report.specs.Verdicts.{Verdict, holds, fails, IsShownAs}
@@ -35,7 +36,24 @@ IsTold nodes None (fails e k shown) = ⊥
 IsTold nodes (Some f) holds = ⊥
 IsTold nodes (Some f) (fails e k shown) = (e ≡ f) × (k < length nodes) × IsShownAs (unfolded nodes k) shown
 
+-- the verdicts tell what is found in the prices for the notions of the table
+pub record AreSides (table : List Notion) (es : List Price) (nodes : List SheetNode) (verdicts : List Verdict) : Type 0 where
+  pub firsts : List (Option Price)
+  pub found : AreFirsts es table firsts
+  pub told : AllZip (IsTold nodes) firsts verdicts
+
 -- each verdict tells what was found, and what was found has these nodes, in order
 pub record AreTold (nodes : List SheetNode) (firsts : List (Option Price)) (numbers : List ℕ) (verdicts : List Verdict) : Type 0 where
   pub each : AllZip (IsTold nodes) firsts verdicts
   pub named : nodes_told verdicts ≡ numbers
+
+-- what is found is wanted for the pair of the number
+abbrev pub wanted_of : ℕ → List (Option Energy) → List Wanted
+wanted_of pair firsts = filter_map (option_map (λ energy. record { pair = pair; price = energy })) firsts
+
+-- the verdict is put last, tells what was found, and has these nodes
+pub record IsPutLast (nodes : List SheetNode) (first : Option Price) (numbers : List ℕ) (old new : List Verdict) : Type 0 where
+  pub verdict : Verdict
+  pub last : new ≡ old ++ verdict ∷ []
+  pub told : IsTold nodes first verdict
+  pub named : nodes_told (verdict ∷ []) ≡ numbers

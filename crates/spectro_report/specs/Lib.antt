@@ -3,6 +3,8 @@ pub mod Verdicts
 pub mod Reports
 pub mod Kept
 pub mod Firsts
+pub mod Starts
+pub mod Comparisons
 pub mod Texts
 pub mod Clauses
 pub mod LawsOfReports

@@ -1,5 +1,5 @@
 -- The report on two systems.
-use Rattle.std.specs.Prelude.{ℕ, ◌≡◌, ◌+◌, ◌-◌, ◌^◌, List, [], ◌∷◌, ◌++◌, length, map, min}
+use Rattle.std.specs.Prelude.{ℕ, ◌≡◌, ◌-◌, ◌^◌, List, [], ◌∷◌, ◌++◌, length, map, min}
 use Rattle.std.specs.List.{sum_by}
 use Rattle.spectro_spec.specs.System.{System, join}
 use Rattle.spectro_spec.specs.Weighing.{Weighing}

@@ -20,6 +20,10 @@ side_line side extent = side ++ codes ": " ++ decimal extent.states ++ codes " s
 abbrev pub game_line : Report → List ℕ
 game_line report = codes "pairs " ++ decimal report.pairs ++ codes ", positions " ++ decimal report.size ++ codes ", energies " ++ decimal report.energies ++ codes "\n"
 
+-- the lines of both sides and of the game
+abbrev pub extents_text : Report → List ℕ
+extents_text report = side_line (codes "left") report.left ++ side_line (codes "right") report.right ++ game_line report
+
 -- the text of the formula, or `node` and its number
 abbrev pub shown_text : ℕ → Shown → List ℕ
 shown_text node (Inline text) = text
@@ -68,10 +72,9 @@ names_a_node report = list_any is_by_node report.forth || list_any is_by_node re
 abbrev pub nodes_part : Report → List ℕ
 nodes_part report = if names_a_node report then codes "nodes\n" ++ sheet_text report.nodes else []
 
--- both sides, the size of the game, the verdicts from left to right and from right to left, the equivalences, and the sheet where a line names a node of it
+-- the extents, the verdicts from left to right and from right to left, the equivalences, and the sheet where a line names a node of it
 abbrev pub report_text : List Notion → Parts → Report → List ℕ
 report_text table parts report =
-    side_line (codes "left") report.left ++ side_line (codes "right") report.right ++ game_line report
-    ++ codes "left to right\n" ++ verdict_lines parts table report.forth
+    extents_text report ++ codes "left to right\n" ++ verdict_lines parts table report.forth
     ++ codes "right to left\n" ++ verdict_lines parts table report.back
     ++ codes "equivalences\n" ++ equivalence_lines table report.forth report.back ++ nodes_part report

@@ -3,14 +3,22 @@
 #![tactic(auto)]
 
 mod compare;
+mod comparison;
+mod directions;
 mod error;
+mod extents;
+mod found;
+mod laws;
 mod reported;
+mod told;
 mod verdict;
 mod verdict_line;
 mod writer;
 
 pub use compare::report;
 pub use error::ReportError;
+pub use extents::put_extents;
+pub use laws::{reports_are_one, reports_exist, reports_have_one_text};
 pub use reported::Report;
 pub use verdict::{MAX_INLINE_BYTES, Shown, Verdict};
 pub use verdict_line::put_verdict;

@@ -1,33 +1,28 @@
 ghost use Rattle.std.specs.Prelude.{◌≡◌, ◌++◌, codes, length, map};
-ghost use Rattle.std.specs.Fmt.{decimal};
 ghost use Rattle.std.specs.List.{list_any};
 ghost use Rattle.spectro_io.specs.Batches.{Puts};
 ghost use Rattle.spectro_io.specs.Bytes.{WritesWhole};
 ghost use Rattle.spectro_io.specs.Faults.{HasCause};
 ghost use Rattle.spectro_hmltext.specs.SheetTexts.{sheet_text};
-ghost use Rattle.spectro_report.specs.Kept.{extent_in};
 ghost use Rattle.spectro_report.specs.Texts.{
   answer_text,
   equivalence_line,
   equivalence_lines,
-  game_line,
   is_by_node,
   is_equivalence,
   is_holding,
   names_a_node,
   nodes_part,
   report_text,
-  side_line,
   verdict_lines,
 };
 ghost use Rattle.spectro_report.specs.Verdicts.{verdict_of};
 
-use crate::reported::Extent;
-use crate::{Report, Shown, Verdict, put_verdict};
+use crate::{Report, Shown, Verdict, put_extents, put_verdict};
 use spectro_energy::Parts;
 use spectro_hml::Sheet;
 use spectro_hmltext::put_sheet;
-use spectro_io::{Batch, Digits, Failed, Sink};
+use spectro_io::{Batch, Failed, Sink};
 use spectro_notions::Notions;
 
 /// Writes the text of a report that was made for these notions, with so many parts of each price. It takes no memory.
@@ -63,62 +58,6 @@ pub fn text<O: Sink>(
     put_equivalences(report, notions, &mut batch, out)?;
     put_nodes(report, &mut batch, out)?;
     batch.flush(out)
-}
-
-// Puts the lines of both sides and of the game.
-fn put_extents<O: Sink>(report: &Report, batch: &mut Batch, out: &mut O) -> Result<(), Failed>
-    ensures bytes { Puts (O.written out.old) (O.written out.new) result batch.new
-        (batch.old ++ (side_line (codes "left") report.now.left ++ side_line (codes "right") report.now.right ++ game_line report.now)) }
-    ensures cause { HasCause (O.faults out.old) (O.faults out.new) result }
-{
-    put_side(b"left", report.left(), batch, out)?;
-    put_side(b"right", report.right(), batch, out)?;
-    put_game(report, batch, out)
-}
-
-fn put_side<O: Sink>(
-    side: &[u8],
-    extent: Extent,
-    batch: &mut Batch,
-    out: &mut O,
-) -> Result<(), Failed>
-    ensures bytes { Puts (O.written out.old) (O.written out.new) result batch.new (batch.old ++ side_line side.now (extent_in extent)) }
-    ensures cause { HasCause (O.faults out.old) (O.faults out.new) result }
-{
-    let states = digits(extent.states);
-    let transitions = digits(extent.transitions);
-    batch.put_all(
-        &[
-            side,
-            b": ",
-            states.as_bytes(),
-            b" states, ",
-            transitions.as_bytes(),
-            b" transitions\n",
-        ],
-        out,
-    )
-}
-
-fn put_game<O: Sink>(report: &Report, batch: &mut Batch, out: &mut O) -> Result<(), Failed>
-    ensures bytes { Puts (O.written out.old) (O.written out.new) result batch.new (batch.old ++ game_line report.now) }
-    ensures cause { HasCause (O.faults out.old) (O.faults out.new) result }
-{
-    let pairs = digits(report.pairs());
-    let size = digits(report.size());
-    let energies = Digits::of(report.energies());
-    batch.put_all(
-        &[
-            b"pairs ",
-            pairs.as_bytes(),
-            b", positions ",
-            size.as_bytes(),
-            b", energies ",
-            energies.as_bytes(),
-            b"\n",
-        ],
-        out,
-    )
 }
 
 // Puts the title, and a line for each notion with its verdict.
@@ -246,10 +185,4 @@ fn is_by_node(verdict: &Verdict) -> bool
         } => true,
         _ => false,
     }
-}
-
-fn digits(number: u32) -> Digits
-    ensures { result ≡ decimal number }
-{
-    Digits::of(u64::from(number))
 }

@@ -2,7 +2,7 @@ use Rattle.std.proofs.Common.{◌∙◌, sym, subst}
 use Rattle.spectro_io.specs.Batches.{Puts}
 use Rattle.spectro_report.specs.Kept.{extent_in}
 use Rattle.spectro_report.proofs.PutLines.{side-pieces}
-use Rattle.spectro_report.proofs.writer.put_side.Goals as goal
+use Rattle.spectro_report.proofs.extents.put_side.Goals as goal
 
 pub returns-clause-bytes : goal.returns-clause-bytes
 returns-clause-bytes g c = subst (Puts _ _ _ _) (sym (side-pieces c.args.batch.now c.args.side.now (extent_in c.args.extent)))

@@ -2,7 +2,7 @@ use Rattle.std.proofs.Common.{◌∙◌, ap, sym, subst}
 use Rattle.std.specs.Fmt.{decimal}
 use Rattle.spectro_io.specs.Batches.{Puts}
 use Rattle.spectro_report.proofs.PutLines.{game-pieces}
-use Rattle.spectro_report.proofs.writer.put_game.Goals as goal
+use Rattle.spectro_report.proofs.extents.put_game.Goals as goal
 
 pub returns-clause-bytes : goal.returns-clause-bytes
 returns-clause-bytes g c = subst (Puts _ _ _ _) (sym (game-pieces c.args.batch.now c.args.report.now))

@@ -5,7 +5,7 @@ use Rattle.spectro_io.specs.Bytes.{AppendsPart}
 use Rattle.spectro_io.proofs.Written.{AppendsPart-front}
 use Rattle.spectro_io.proofs.Batches.{pending-more, pending-part, puts-more}
 use Rattle.spectro_report.proofs.PutLines.{extents-pieces}
-use Rattle.spectro_report.proofs.writer.put_extents.Goals as goal
+use Rattle.spectro_report.proofs.extents.put_extents.Goals as goal
 
 pub returns-in_err-put_side-clause-bytes : goal.returns-in_err-put_side-clause-bytes
 returns-in_err-put_side-clause-bytes g c =
