@@ -1,6 +1,7 @@
 -- Commands with their words.
 use Rattle.std.specs.Prelude.{ℕ, Option}
 use Rattle.spectro_words.specs.Words.{Word}
+use Rattle.spectro_words.specs.Demos.{IsDemo}
 use Rattle.spectro_words.specs.Limits.{IsLimit}
 
 pub data Command : Type 0 where
@@ -12,8 +13,14 @@ pub data Command : Type 0 where
   price : Word → Option Word → Command
   -- the names of two files, and the limit of positions
   size : Word → Word → ℕ → Command
+  -- the names of two files, that of a file of weights and that of one of notions, if they are asked for, and the limit of positions
+  compare : Word → Word → Option Word → Option Word → ℕ → Command
+  -- the number of a demo
+  demo : ℕ → Command
 
--- the limit of the command, if it has one, may be one
-abbrev pub HasLimit : Command → Type 0
-HasLimit (size left right limit) = IsLimit limit
-HasLimit command = Unit {0}
+-- the number of the command, if it has one, may be one: a limit of positions, or the number of a demo
+abbrev pub IsInRange : Command → Type 0
+IsInRange (size left right limit) = IsLimit limit
+IsInRange (compare left right weights notions limit) = IsLimit limit
+IsInRange (demo number) = IsDemo number
+IsInRange command = Unit {0}

@@ -3,7 +3,8 @@ use Rattle.std.specs.Prelude.{◌≡◌, List, [], ◌∷◌, Contains, Option, 
 use Rattle.std.specs.Option.{option_map}
 use Rattle.spectro_words.specs.Words.{Word}
 use Rattle.spectro_words.specs.Limits.{limit_of}
-use Rattle.spectro_words.specs.Commands.{Command, eval, rewrite, price, size}
+use Rattle.spectro_words.specs.Demos.{demo_number_of}
+use Rattle.spectro_words.specs.Commands.{Command, eval, rewrite, price, size, compare, demo}
 use Rattle.spectro_words.specs.Forms.{Form, Fill}
 
 -- eval: a formula, then a file; weights may be given
@@ -26,6 +27,16 @@ abbrev pub size_of : List Word → List (Option Word) → Option Command
 size_of (left ∷ right ∷ []) (limit ∷ []) = option_map (size left right) (limit_of limit)
 size_of placed given = None
 
+-- compare: the left file, then the right one; weights, then notions and then a limit may be given
+abbrev pub compare_of : List Word → List (Option Word) → Option Command
+compare_of (left ∷ right ∷ []) (weights ∷ notions ∷ limit ∷ []) = option_map (compare left right weights notions) (limit_of limit)
+compare_of placed given = None
+
+-- demo: its number
+abbrev pub demo_of : List Word → List (Option Word) → Option Command
+demo_of (number ∷ []) [] = option_map demo (demo_number_of number)
+demo_of placed given = None
+
 -- the forms: verb, number of places, options in their order, and the command of what fills these
 abbrev pub forms : List Form
 forms =
@@ -33,7 +44,9 @@ forms =
     ∷ (record { verb = codes "rewrite"; places = 1; options = []; command = rewrite_of }
     ∷ (record { verb = codes "price"; places = 1; options = codes "--weights" ∷ []; command = price_of }
     ∷ (record { verb = codes "size"; places = 2; options = codes "--limit" ∷ []; command = size_of }
-    ∷ [])))
+    ∷ (record { verb = codes "compare"; places = 2; options = codes "--weights" ∷ codes "--notions" ∷ codes "--limit" ∷ []; command = compare_of }
+    ∷ (record { verb = codes "demo"; places = 1; options = []; command = demo_of }
+    ∷ [])))))
 
 -- the words fill one of the forms, and the command is that of what fills it
 pub record IsCommand (words : List Word) (asked : Command) : Type 0 where

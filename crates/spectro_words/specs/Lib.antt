@@ -1,5 +1,7 @@
 pub mod Words
+pub mod Numbers
 pub mod Limits
+pub mod Demos
 pub mod Commands
 pub mod Forms
 pub mod Grammar

@@ -1,11 +1,11 @@
 ghost use Rattle.std.specs.Prelude.{◌≡◌, IfSome};
 ghost use Rattle.std.specs.Option.{option_map};
 ghost use Rattle.spectro_words.specs.Asked.{asked};
-ghost use Rattle.spectro_words.specs.Commands.{HasLimit};
+ghost use Rattle.spectro_words.specs.Commands.{IsInRange};
 ghost use Rattle.spectro_words.specs.Reading.{command};
 ghost use Rattle.spectro_words.specs.Words.{words_of};
 
-use crate::forms::{eval, price, rewrite, size};
+use crate::forms::{compare, demo, eval, price, rewrite, size};
 
 /// A command with its words.
 #[derive(Clone, Copy)]
@@ -32,12 +32,25 @@ pub enum Command<'a> {
         right: &'a str,
         limit: u32,
     },
+    /// The report on the files' systems, under the weights of a third file and the notions of a fourth if they are named, if
+    /// the comparison has at most so many positions.
+    Compare {
+        left: &'a str,
+        right: &'a str,
+        weights: Option<&'a str>,
+        notions: Option<&'a str>,
+        limit: u32,
+    },
+    /// The report on the two systems of the demo of this number, summed up.
+    Demo {
+        number: u32,
+    },
 }
 
 /// The command that the words are, if they are one.
 pub fn command_of(words: &[String]) -> Option<Command<'_>>
     ensures command { option_map asked result ≡ command (words_of words.now) }
-    ensures limit { IfSome result (λ command. HasLimit (asked command)) }
+    ensures range { IfSome result (λ command. IsInRange (asked command)) }
 {
     let [verb, words @ ..] = words else {
         return None;
@@ -47,6 +60,8 @@ pub fn command_of(words: &[String]) -> Option<Command<'_>>
         "rewrite" => rewrite(words),
         "price" => price(words),
         "size" => size(words),
+        "compare" => compare(words),
+        "demo" => demo(words),
         _ => None,
     }
 }

@@ -2,9 +2,11 @@
 #![tactic(auto)]
 
 mod command;
+mod demo;
 mod forms;
 mod laws;
 mod limit;
+mod numbers;
 mod options;
 
 pub use command::{Command, command_of};
