@@ -11,3 +11,4 @@ mod options;
 
 pub use command::{Command, command_of};
 pub use laws::{commands_are_filled_forms, words_are_at_most_one_command};
+pub use limit::DEFAULT_LIMIT;

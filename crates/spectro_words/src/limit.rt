@@ -4,8 +4,8 @@ ghost use Rattle.spectro_words.specs.Words.{named};
 
 use crate::numbers::number_up_to;
 
-// The limit of positions where none is asked for.
-const DEFAULT_LIMIT: u32 = 200_000;
+/// The limit of positions where none is asked for.
+pub const DEFAULT_LIMIT: u32 = 200_000;
 
 // The greatest limit of positions that may be asked for.
 const MAX_LIMIT: u32 = 1_000_000;
