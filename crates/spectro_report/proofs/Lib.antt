@@ -15,3 +15,4 @@ pub mod SameVerdicts
 pub mod OneReport
 pub mod PutLines
 pub mod Sections
+pub mod Tallies

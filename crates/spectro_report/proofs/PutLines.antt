@@ -7,6 +7,7 @@ use Rattle.spectro_spec.specs.Notion.{Notion}
 use Rattle.spectro_energy.specs.declared.parts.Parts.{Parts}
 use Rattle.spectro_notation.specs.Prices.{price_text}
 use Rattle.spectro_report.specs.Reports.{Extent, Report}
+use Rattle.spectro_report.specs.Summaries.{direction_line, equal, equivalences_line, summary_text, unequal}
 use Rattle.spectro_report.specs.Texts.{answer_text, equivalence_line, equivalence_lines, extents_text, game_line, is_equivalence, nodes_part, report_text, shown_text, side_line, verdict_line, verdict_lines}
 use Rattle.spectro_report.specs.Verdicts.{Verdict, fails}
 use Rattle.spectro_report.specs.declared.verdict.Shown.{Shown}
@@ -33,6 +34,23 @@ pub extents-pieces : (held : List ℕ) (report : Report)
     → held ++ extents_text report
     ≡ ((held ++ side_line (codes "left") report.left) ++ side_line (codes "right") report.right) ++ game_line report
 extents-pieces held report = three-pieces held (side_line (codes "left") report.left) (side_line (codes "right") report.right) (game_line report)
+
+four-pieces : (held first second third fourth : List ℕ)
+    → held ++ (first ++ second ++ third ++ fourth) ≡ (((held ++ first) ++ second) ++ third) ++ fourth
+four-pieces held first second third fourth = simp append_assoc
+
+pub summary-pieces : (held : List ℕ) (report : Report)
+    → held ++ summary_text report
+    ≡ (((held ++ extents_text report) ++ direction_line (codes "left to right: ") report.forth) ++ direction_line (codes "right to left: ") report.back)
+    ++ equivalences_line report.forth report.back
+summary-pieces held report =
+    four-pieces held (extents_text report) (direction_line (codes "left to right: ") report.forth) (direction_line (codes "right to left: ") report.back)
+    (equivalences_line report.forth report.back)
+
+pub answers-pieces : (held : List ℕ) (forth back : List Verdict)
+    → held ++ equivalences_line forth back
+    ≡ held ++ (codes "equivalences: " ++ (decimal (equal forth back) ++ (codes " yes, " ++ (decimal (unequal forth back) ++ codes " no\n"))))
+answers-pieces held forth back = simp append_assoc
 
 -- the line of a notion that fails
 pub failure-pieces : (held name : List ℕ) (parts : Parts) (e : Price) (node : ℕ) (shown : Shown)

@@ -6,5 +6,6 @@ pub mod Firsts
 pub mod Starts
 pub mod Comparisons
 pub mod Texts
+pub mod Summaries
 pub mod Clauses
 pub mod LawsOfReports

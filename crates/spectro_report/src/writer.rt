@@ -116,7 +116,7 @@ fn put_equivalence<O: Sink>(
     batch.put(answer(is_equivalence(forth, back)), out)
 }
 
-fn is_equivalence(forth: &Verdict, back: &Verdict) -> bool
+pub(crate) fn is_equivalence(forth: &Verdict, back: &Verdict) -> bool
     ensures { result ≡ is_equivalence (verdict_of forth.now) (verdict_of back.now) }
 {
     holds(forth) && holds(back)
@@ -128,7 +128,7 @@ fn answer(both: bool) -> &'static [u8]
     if both { b" yes\n" } else { b" no\n" }
 }
 
-fn holds(verdict: &Verdict) -> bool
+pub(crate) fn holds(verdict: &Verdict) -> bool
     ensures { result ≡ is_holding (verdict_of verdict.now) }
 {
     matches!(verdict, Verdict::Holds)
