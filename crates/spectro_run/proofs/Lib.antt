@@ -6,6 +6,7 @@ pub mod OneStage
 pub mod SomeOutcome
 pub mod PutLines
 pub mod ReadFronts
+pub mod Reported
 pub mod Sized
 pub mod Stopping
 pub mod StagesOfTexts

@@ -9,7 +9,7 @@ use Rattle.spectro_theory.proofs.Places.{stands-below}
 use Rattle.spectro_pairs.specs.Explored.{start_pairs}
 use Rattle.spectro_pairs.specs.Limits.{IsPastLimit}
 use Rattle.spectro_pairs.specs.declared.error.ExploreError.TheVariants.{TooLarge}
-use Rattle.spectro_run.specs.Commands.Size.{AreCompared, compared}
+use Rattle.spectro_report.specs.Compared.{AreCompared, forth_pair, initial_of_right}
 
 -- the one start is the pair that is compared
 pub one_start : (first second : ℕ) → start_pairs ((first, second) ∷ []) ≡ record { state = first; set = second ∷ [] } ∷ []
@@ -18,8 +18,8 @@ one_start first second = refl
 
 -- there is a list of the pairs
 pub some_compared : (left right : System) → (pairs : List Pair) × AreCompared left right pairs
-some_compared left right = some_pairs (join left right) (compared left right ∷ [])
-    (λ i j x first second. only i j (stands-below (compared left right ∷ []) i x first) (stands-below (compared left right ∷ []) j x second))
+some_compared left right = some_pairs (join left right) (forth_pair left right ∷ [])
+    (λ i j x first second. only i j (stands-below (forth_pair left right ∷ []) i x first) (stands-below (forth_pair left right ∷ []) j x second))
   where
     only : (i j : ℕ) → i < 1 → j < 1 → i ≡ j
     only i j first second = omega arith
@@ -29,7 +29,7 @@ pub reached_compared : (left right system : System) (first second : ℕ) (pairs 
     → second ≡ left.states + right.initial
     → AreReachedPairs system (start_pairs ((first, second) ∷ [])) pairs ≡ AreCompared left right pairs
 reached_compared left right system first second pairs joined same also =
-    let starts : start_pairs ((first, second) ∷ []) ≡ compared left right ∷ [] = one_start first second
+    let starts : start_pairs ((first, second) ∷ []) ≡ forth_pair left right ∷ [] = one_start first second
     ∙ (λ i. record { state = same i; set = also i ∷ [] } ∷ []) in
     λ i. AreReachedPairs (joined i) (starts i) pairs
 

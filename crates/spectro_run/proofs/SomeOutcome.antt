@@ -1,9 +1,11 @@
 -- Each command has an outcome of what its files hold, since each stage gives a value or is refused.
-use Rattle.std.proofs.Common.{◌≡◌, ◌⊎◌, ℕ, List, [], length, refl, inl, inr}
+use Rattle.std.proofs.Common.{◌≡◌, ◌⊎◌, ℕ, List, [], length, refl, inl, inr, arith}
 use Rattle.std.specs.Prelude.{Bool, true, false, Option, None, Some}
 use Rattle.std.proofs.lemmas.Bool.{cases_lt}
 use Rattle.spectro_spec.specs.Formula.{Formula}
+use Rattle.spectro_spec.specs.Notion.{Notion}
 use Rattle.spectro_spec.specs.Pricing.{price}
+use Rattle.spectro_spec.specs.Spectrum as spectrum
 use Rattle.spectro_spec.specs.System.{System}
 use Rattle.spectro_spec.specs.Weighing.{Weighing}
 use Rattle.spectro_game.specs.Pairs as game
@@ -13,21 +15,29 @@ use Rattle.spectro_aut.specs.Written.{text_of}
 use Rattle.spectro_hmltext.specs.Laws as formulas
 use Rattle.spectro_hmltext.specs.Printed.{formula_text}
 use Rattle.spectro_weights.specs.Laws as weightings
-use Rattle.spectro_words.specs.Commands.{Command, eval, price as pricing, rewrite, size}
+use Rattle.spectro_notions.specs.Laws as tables
+use Rattle.spectro_report.specs.LawsOfReports.{ReportsExist}
+use Rattle.spectro_report.specs.Reports.{Report}
+use Rattle.spectro_report.specs.Texts.{report_text}
+use Rattle.spectro_demo.specs.Systems.{demo_left, demo_right}
+use Rattle.spectro_words.specs.Commands.{Command, eval, price as pricing, rewrite, size, compare, demo}
 use Rattle.spectro_words.specs.Words.{Word}
+use Rattle.spectro_words.specs.declared.limit.TheConstants.{DEFAULT_LIMIT}
 use Rattle.std.specs.Str.{IsUtf8}
+use Rattle.spectro_run.specs.Commands.Demo.{demo_text}
 use Rattle.spectro_run.specs.Commands.Eval.{eval_text, truth_of}
 use Rattle.spectro_run.specs.Commands.Price.{priced_text}
-use Rattle.spectro_run.specs.Commands.Size.{pairs_of, size_line}
+use Rattle.spectro_run.specs.Commands.Size.{size_line}
+use Rattle.spectro_run.specs.Comparisons.{pairs_of, report_of}
 use Rattle.spectro_run.specs.Held.{Held}
 use Rattle.spectro_run.specs.Outcome.{HasUtf8Formula, outcome_of}
-use Rattle.spectro_run.specs.Refusals.{formula_of, system_of, weighing_of}
+use Rattle.spectro_run.specs.Refusals.{formula_of, system_of, table_of, weighing_of}
 use Rattle.spectro_run.specs.Stages.{IsSome, Outcome, Stage, After, Writes, refused, given}
 use Rattle.spectro_run.specs.Weighted.{parts_shown}
 use Rattle.spectro_run.specs.declared.status.Status.{Status}
 use Rattle.spectro_run.specs.declared.status.Status.TheVariants.{BadText, Done, ReadFault, TooLarge, Usage}
 use Rattle.spectro_run.specs.declared.status.Which.{Which}
-use Rattle.spectro_run.specs.declared.status.Which.TheVariants.{Left, Right, Formula as FormulaText, Weights}
+use Rattle.spectro_run.specs.declared.status.Which.TheVariants.{Left, Right, Formula as FormulaText, Weights, Notions}
 use Rattle.spectro_run.specs.declared.status.Kind.TheVariants as kinds
 use Rattle.spectro_run.proofs.Sized.{some_compared}
 
@@ -56,8 +66,17 @@ pairs-some left right limit =
       | inr within ↦ inl (some.0, (some.1, within))
     ]
 
+report-some : ReportsExist → (left right : System) (weighing : Weighing) (table : List Notion) (limit : ℕ)
+    → ((report : Report) × (report_of left right weighing table limit).Gives report) ⊎ ((status : Status) × (report_of left right weighing table limit).Refuses status)
+report-some some_report left right weighing table limit =
+    let some = some_report weighing left right table in
+    elim (cases_lt limit some.0.size) [
+      | inl past ↦ inr (TooLarge limit, (refl, (some.1.pairs, some.1.compared, omega (arith, past, some.1.size))))
+      | inr within ↦ inl (some.0, (some.1, within))
+    ]
+
 module _ (some_system : systems.EachTextHasASystemOrAFault) (some_formula : formulas.EachTextHasAFormulaOrAFault)
-    (some_weighing : weightings.EachTextHasAWeighingOrAFault) where
+    (some_weighing : weightings.EachTextHasAWeighingOrAFault) (some_table : tables.EachTextHasATableOrAFault) (some_report : ReportsExist) where
   system-some : (which : Which) (held : Option (List ℕ))
       → ((system : System) × (system_of which held).Gives system) ⊎ ((status : Status) × (system_of which held).Refuses status)
   system-some which None = inr (ReadFault, refl)
@@ -81,6 +100,15 @@ module _ (some_system : systems.EachTextHasASystemOrAFault) (some_formula : form
     | inr (fault, is) ↦ inr (BadText (record { which = Weights; at = fault.line; kind = kinds.Weights fault.kind }), (fault, is, refl))
   ]
 
+  table-some : (notions : Option Word) (held : Option (List ℕ))
+      → ((table : List Notion) × (table_of notions held).Gives table) ⊎ ((status : Status) × (table_of notions held).Refuses status)
+  table-some None held = inl (spectrum.notions, refl)
+  table-some (Some name) None = inr (ReadFault, refl)
+  table-some (Some name) (Some text) = elim (some_table text) [
+    | inl is ↦ inl is
+    | inr (fault, is) ↦ inr (BadText (record { which = Notions; at = fault.line; kind = kinds.Notions fault.kind }), (fault, is, refl))
+  ]
+
   -- ---- the commands
   pub some_of_command : (asked : Option Command) (held : Held) → HasUtf8Formula asked → IsSome (outcome_of asked held)
   some_of_command None held utf8 = (Usage, [], (refl, refl))
@@ -96,3 +124,11 @@ module _ (some_system : systems.EachTextHasASystemOrAFault) (some_formula : form
       after-some _ _ (system-some Left (held Left))
       (λ first _. after-some _ _ (system-some Right (held Right)) (λ second _. after-some _ _ (pairs-some first second limit)
       (λ pairs _. writes-some (size_line (length pairs) (game.size pairs)))))
+  some_of_command (Some (compare left right weights notions limit)) held utf8 =
+      after-some _ _ (system-some Left (held Left))
+      (λ first _. after-some _ _ (system-some Right (held Right)) (λ second _. after-some _ _ (weighing-some weights (held Weights))
+      (λ w _. after-some _ _ (table-some notions (held Notions)) (λ t _. after-some _ _ (report-some some_report first second w t limit)
+      (λ r _. writes-some (report_text t (parts_shown weights) r))))))
+  some_of_command (Some (demo number)) held utf8 =
+      after-some _ _ (report-some some_report (demo_left number) (demo_right number) [] spectrum.notions DEFAULT_LIMIT)
+      (λ r _. writes-some (demo_text number r))

@@ -6,18 +6,20 @@ use Rattle.spectro_io.specs.Shelves.{Texts}
 use Rattle.spectro_io.specs.Faults.{Rose}
 use Rattle.spectro_aut.specs.Texts.{IsText}
 use Rattle.spectro_aut.proofs.Texts as aut_texts
+use Rattle.spectro_notions.specs.NotionTexts.{IsNotionText}
+use Rattle.spectro_notions.proofs.Texts as notion_texts
 use Rattle.spectro_weights.specs.WeightTexts.{IsWeightText}
 use Rattle.spectro_weights.proofs.Texts as weight_texts
 use Rattle.spectro_run.specs.Held.{IsHeld}
 use Rattle.spectro_run.specs.Reading.{HasRead, HoldsNothing, IsUnread, LeavesRest, OrMemory, ReadsToEnd}
-use Rattle.spectro_run.specs.Refusals.{RefusesSystem, RefusesWeighing, of_file}
+use Rattle.spectro_run.specs.Refusals.{RefusesSystem, RefusesTable, RefusesWeighing, of_file}
 use Rattle.spectro_run.specs.Stops.{IsStop, TakesStage, no_memory, refused, unread}
 use Rattle.spectro_words.specs.Words.{Word}
 use Rattle.spectro_run.specs.declared.status.BadText as declared
 use Rattle.spectro_run.specs.declared.status.Status.{Status}
 use Rattle.spectro_run.specs.declared.status.Status.TheVariants.{BadText}
 use Rattle.spectro_run.specs.declared.status.Which.{Which}
-use Rattle.spectro_run.specs.declared.status.Which.TheVariants.{Weights}
+use Rattle.spectro_run.specs.declared.status.Which.TheVariants.{Notions, Weights}
 use Rattle.spectro_run.proofs.FilesHeld.{some-held}
 use Rattle.spectro_run.proofs.ReadFronts.{whole_from_front}
 
@@ -50,6 +52,13 @@ pub weighings-judged : AreJudged IsWeightText RefusesWeighing Weights
 weighings-judged = record {
   value = λ text weighing is long. absurd (weight_texts.read_front_no_text text weighing is long);
   fault = λ text status is long. (is.0, weight_texts.fault_of_read_front text is.0 is.1 long, is.2);
+  named = λ text status is. (_, refl, is.2);
+}
+
+pub tables-judged : AreJudged IsNotionText RefusesTable Notions
+tables-judged = record {
+  value = λ text table is long. absurd (notion_texts.read_front_no_text text table is long);
+  fault = λ text status is long. (is.0, notion_texts.fault_of_read_front text is.0 is.1 long, is.2);
   named = λ text status is. (_, refl, is.2);
 }
 

@@ -1,14 +1,18 @@
 -- Why a stage stops, as why the whole chain does.
-use Rattle.std.proofs.Common.{◌≡◌, ◌∙◌, ℕ, [], refl, sym, subst, arith}
+use Rattle.std.proofs.Common.{◌≡◌, ◌∙◌, ℕ, [], ap, refl, sym, subst, arith}
 use Rattle.std.specs.Prelude.{◌≤◌, List, Option, None, Some, Result, Ok, Err, IfOk, IfErr, MatchResult}
 use Rattle.spectro_io.specs.Faults.{Rose}
 use Rattle.spectro_io.specs.Shelves.{Texts}
 use Rattle.spectro_words.specs.Commands.{Command}
-use Rattle.spectro_run.specs.Reading.{JudgesWhole, LeavesRest}
+use Rattle.spectro_words.specs.Words.{Word}
+use Rattle.spectro_run.specs.Held.{file_of}
+use Rattle.spectro_run.specs.Reading.{JudgesWhole, LeavesRest, ReadsToEnd}
 use Rattle.spectro_run.specs.Stages.{Outcome, Stage, After}
 use Rattle.spectro_run.specs.Stages as stages
 use Rattle.spectro_run.specs.Stops.{Counts, IsStop, Stops, no_memory, refused, unread}
 use Rattle.spectro_run.specs.declared.status.Status.{Status}
+use Rattle.spectro_run.specs.declared.status.Status.TheVariants.{Done, No, Usage, BadText, TooLarge, ReadFault, WriteFault, OutOfMemory}
+use Rattle.spectro_run.specs.declared.status.Which.{Which}
 
 -- what stops for one reason stops for one that is as good
 pub stops-map : {P Q : Status → Type 0} {Failed More : Type 0} (status : Status) → (P status → Q status) → (Failed → More) → Stops P Failed status
@@ -40,10 +44,15 @@ pub counts-same : {T : Type 0} (before now : ℕ) (result : Result T Status) →
 counts-same before now (Ok value) same = record { later = omega arith; kept = same }
 counts-same before now (Err status) same = record { later = omega arith; kept = λ _. same }
 
+-- a later stage began and stopped later
+pub counts-stop : {T U : Type 0} (before mid now : ℕ) (status : Status) → mid ≡ before → Counts {T = U} mid now (Err status)
+    → Counts {T = T} before now (Err status)
+counts-stop before mid now status same counts = record { later = omega (arith, same, counts.later); kept = λ other. counts.kept other ∙ same }
+
 -- a later stage began and ended later
 pub counts-then : {U : Type 0} (before mid now : ℕ) (result : Result U Status) → mid ≡ before → Counts mid now result → Counts before now result
 counts-then before mid now (Ok value) same counts = record { later = omega (arith, same, counts.later); kept = counts.kept ∙ same }
-counts-then before mid now (Err status) same counts = record { later = omega (arith, same, counts.later); kept = λ other. counts.kept other ∙ same }
+counts-then before mid now (Err status) same counts = counts-stop before mid now status same counts
 
 -- what failed failed in a longer time too
 pub rose-wider : (earlier before now later : ℕ) → earlier ≤ before → now ≤ later → Rose before now → Rose earlier later
@@ -67,3 +76,16 @@ stops-whole told asked left status refusal (refused stop refuses) = refusal refu
 pub leaves-none : (told : Option Texts) (left : Option (List ℕ)) → LeavesRest told None left
 leaves-none None left = tt
 leaves-none (Some texts) left = tt
+
+-- a text that is refused is that of the file, which was read to its end
+pub judges-whole : (told : Option Texts) (asked : Command) (name : Option Word) (which : Which) (left : Option (List ℕ)) (status : Status)
+    → name ≡ file_of which asked → ReadsToEnd told name which left status → JudgesWhole told (Some asked) left status
+judges-whole told asked name which left (BadText fault) same read =
+    subst (λ file. LeavesRest told file left) (same ∙ ap (λ which. file_of which asked) (sym read.0)) read.1
+judges-whole told asked name which left Done same read = tt
+judges-whole told asked name which left No same read = tt
+judges-whole told asked name which left Usage same read = tt
+judges-whole told asked name which left (TooLarge limit) same read = tt
+judges-whole told asked name which left ReadFault same read = tt
+judges-whole told asked name which left WriteFault same read = tt
+judges-whole told asked name which left OutOfMemory same read = tt

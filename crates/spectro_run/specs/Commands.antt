@@ -3,3 +3,5 @@ pub mod Eval
 pub mod Rewrite
 pub mod Price
 pub mod Size
+pub mod Compare
+pub mod Demo

@@ -1,6 +1,7 @@
 pub mod Stages
 pub mod Held
 pub mod Refusals
+pub mod Comparisons
 pub mod Weighted
 pub mod Notation
 pub mod Commands

@@ -8,6 +8,7 @@ use Rattle.spectro_io.specs.Faults.{Rose}
 use Rattle.spectro_aut.specs.Kinds as aut
 use Rattle.spectro_hmltext.specs.Kinds as hmltext
 use Rattle.spectro_weights.specs.Kinds as weights
+use Rattle.spectro_notions.specs.Kinds as notions
 use Rattle.spectro_words.specs.Commands.{Command}
 use Rattle.spectro_words.specs.Reading.{command}
 use Rattle.spectro_words.specs.Words.{Word}
@@ -31,12 +32,14 @@ abbrev pub kind_name : Kind → List ℕ
 kind_name (kinds.Aut kind) = aut.kind_name kind
 kind_name (kinds.Formula kind) = hmltext.kind_name kind
 kind_name (kinds.Weights kind) = weights.kind_name kind
+kind_name (kinds.Notions kind) = notions.kind_name kind
 
 -- how many lines the header said and how many were found, where the kind tells it
 abbrev pub counts_text : Kind → List ℕ
 counts_text (kinds.Aut kind) = aut.counts_text kind
 counts_text (kinds.Formula kind) = []
 counts_text (kinds.Weights kind) = []
+counts_text (kinds.Notions kind) = []
 
 -- the text of this name, and the place in it
 abbrev pub place_text : List ℕ → ℕ → List ℕ

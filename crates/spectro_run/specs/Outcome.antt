@@ -8,12 +8,14 @@ use Rattle.spectro_run.specs.Commands.Eval.{eval_outcome}
 use Rattle.spectro_run.specs.Commands.Rewrite.{rewrite_outcome}
 use Rattle.spectro_run.specs.Commands.Price.{price_outcome}
 use Rattle.spectro_run.specs.Commands.Size.{size_outcome}
+use Rattle.spectro_run.specs.Commands.Compare.{compare_outcome}
+use Rattle.spectro_run.specs.Commands.Demo.{demo_outcome}
 use Rattle.spectro_run.specs.Held.{Held, AreHeld}
 use Rattle.spectro_run.specs.Stages.{Outcome}
-use Rattle.spectro_words.specs.Commands.{Command, eval, rewrite, price, size}
+use Rattle.spectro_words.specs.Commands.{Command, eval, rewrite, price, size, compare, demo}
 use Rattle.spectro_run.specs.declared.status.Status.{Status}
 use Rattle.spectro_run.specs.declared.status.Status.TheVariants.{Done, No, Usage, ReadFault, WriteFault, OutOfMemory}
-use Rattle.spectro_run.specs.declared.status.Which.TheVariants.{Left, Right, Weights}
+use Rattle.spectro_run.specs.declared.status.Which.TheVariants.{Left, Right, Weights, Notions}
 
 -- what comes of a command whose files hold this; words that are no command are refused
 abbrev pub outcome_of : Option Command → Held → Outcome
@@ -22,6 +24,9 @@ outcome_of (Some (eval formula file weights)) held = eval_outcome formula (held 
 outcome_of (Some (rewrite file)) held = rewrite_outcome (held Left)
 outcome_of (Some (price formula weights)) held = price_outcome formula weights (held Weights)
 outcome_of (Some (size left right limit)) held = size_outcome (held Left) (held Right) limit
+outcome_of (Some (compare left right weights notions limit)) held =
+    compare_outcome (held Left) (held Right) weights (held Weights) notions (held Notions) limit
+outcome_of (Some (demo number)) held = demo_outcome number
 
 -- the word that is read as a formula, if the command has one, is of UTF-8, as is each word that a run is handed
 abbrev pub HasUtf8Formula : Option Command → Type 0
@@ -30,6 +35,8 @@ HasUtf8Formula (Some (eval formula file weights)) = IsUtf8 formula
 HasUtf8Formula (Some (rewrite file)) = Unit {0}
 HasUtf8Formula (Some (price formula weights)) = IsUtf8 formula
 HasUtf8Formula (Some (size left right limit)) = Unit {0}
+HasUtf8Formula (Some (compare left right weights notions limit)) = Unit {0}
+HasUtf8Formula (Some (demo number)) = Unit {0}
 
 -- The answer is an outcome, and all of its bytes were written. Or memory ran out, or the shelf failed, and nothing was
 -- written. Or the output failed, and a proper prefix of the bytes was.

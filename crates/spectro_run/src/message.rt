@@ -5,7 +5,7 @@ ghost use Rattle.spectro_io.specs.Bytes.{WritesWhole};
 ghost use Rattle.spectro_io.specs.Faults.{HasCause};
 ghost use Rattle.spectro_words.specs.Asked.{asked};
 ghost use Rattle.spectro_words.specs.Words.{named};
-ghost use Rattle.spectro_run.specs.Held.{file_of};
+ghost use Rattle.spectro_run.specs.Held.{file_of, of_files};
 ghost use Rattle.spectro_run.specs.Messages.{IsUntold, command_message, fault_text, kind_text, place_text, text_name};
 
 use crate::status::{BadText, Kind, Status, Which};
@@ -17,16 +17,38 @@ use spectro_words::Command;
 fn file_of<'a>(which: Which, command: Command<'a>) -> Option<&'a str>
     ensures { named result ≡ file_of which (asked command.entry) }
 {
-    match (which, command) {
-        (Which::Formula | Which::Certificate, _) => None,
-        (Which::Left, Command::Eval { file, .. } | Command::Rewrite { file }) => Some(file),
-        (Which::Left, Command::Size { left, .. }) => Some(left),
-        (Which::Left, Command::Price { .. }) => None,
-        (Which::Right, Command::Size { right, .. }) => Some(right),
-        (Which::Right, Command::Eval { .. } | Command::Rewrite { .. } | Command::Price { .. }) =>
-            None,
-        (Which::Weights, Command::Eval { weights, .. } | Command::Price { weights, .. }) => weights,
-        (Which::Weights, Command::Rewrite { .. } | Command::Size { .. }) => None,
+    match command {
+        Command::Eval { file, weights, .. } => of_files(Some(file), None, weights, None, which),
+        Command::Rewrite { file } => of_files(Some(file), None, None, None, which),
+        Command::Price { weights, .. } => of_files(None, None, weights, None, which),
+        Command::Size { left, right, .. } => of_files(Some(left), Some(right), None, None, which),
+        Command::Compare {
+            left,
+            right,
+            weights,
+            notions,
+            ..
+        } => of_files(Some(left), Some(right), weights, notions, which),
+        Command::Demo { .. } => None,
+    }
+}
+
+// The name that is asked for, of the left file, the right one, that of weights and that of notions.
+fn of_files<'a>(
+    left: Option<&'a str>,
+    right: Option<&'a str>,
+    weights: Option<&'a str>,
+    notions: Option<&'a str>,
+    which: Which,
+) -> Option<&'a str>
+    ensures { named result ≡ of_files (named left.entry) (named right.entry) (named weights.entry) (named notions.entry) which }
+{
+    match which {
+        Which::Left => left,
+        Which::Right => right,
+        Which::Weights => weights,
+        Which::Notions => notions,
+        Which::Formula | Which::Certificate => None,
     }
 }
 

@@ -9,6 +9,8 @@ use spectro_aut::{
     a_text_has_at_most_one_system, texts_of_systems_have_no_fault,
 };
 use spectro_hmltext as formulas;
+use spectro_notions as notions;
+use spectro_report::{reports_are_one, reports_exist};
 use spectro_theory::reached_pairs_are_one;
 use spectro_weights as weights;
 
@@ -25,7 +27,11 @@ pub fn a_command_has_at_most_one_outcome()
     weights::a_text_has_at_most_one_weighing();
     weights::a_text_has_at_most_one_first_fault();
     weights::texts_of_weighings_have_no_fault();
+    notions::a_text_has_at_most_one_table();
+    notions::a_text_has_at_most_one_first_fault();
+    notions::texts_of_tables_have_no_fault();
     reached_pairs_are_one();
+    reports_are_one();
 }
 
 /// A command and what its files hold have an outcome.
@@ -35,4 +41,6 @@ pub fn a_command_has_an_outcome()
     a_text_has_a_system_or_a_fault();
     formulas::a_text_has_a_formula_or_a_fault();
     weights::a_text_has_a_weighing_or_a_fault();
+    notions::a_text_has_a_table_or_a_fault();
+    reports_exist();
 }

@@ -6,10 +6,12 @@ ghost use Rattle.spectro_run.specs.Held.{HasNoFile};
 ghost use Rattle.spectro_run.specs.Messages.{IsUntold, Tells, message};
 ghost use Rattle.spectro_run.specs.Outcome.{IsAnswered, IsSilent};
 ghost use Rattle.spectro_run.specs.Reading.{JudgesWhole};
-ghost use Rattle.spectro_words.specs.Commands.{HasLimit};
+ghost use Rattle.spectro_words.specs.Commands.{IsInRange};
 ghost use Rattle.spectro_words.specs.Reading.{command};
 ghost use Rattle.spectro_words.specs.Words.{words_of};
 
+use crate::commands::compare::compare;
+use crate::commands::demo::demo;
 use crate::commands::eval::eval;
 use crate::commands::price::price;
 use crate::commands::rewrite::rewrite;
@@ -28,7 +30,7 @@ fn perform<H: Shelf, O: Sink>(
     shelf: &mut H,
     out: &mut O,
 ) -> Status
-    requires limit { IfSome command (λ command. HasLimit (asked command)) }
+    requires range { IfSome command (λ command. IsInRange (asked command)) }
     ensures answer { IsAnswered (H.texts shelf.old) (option_map asked command.entry) (Rose (H.faults shelf.old) (H.faults shelf.new))
         (Rose (O.faults out.old) (O.faults out.new)) result (O.written out.old) (O.written out.new) }
     ensures whole { JudgesWhole (H.texts shelf.old) (option_map asked command.entry) (H.left shelf.new) result }
@@ -55,15 +57,28 @@ fn perform<H: Shelf, O: Sink>(
         Some(Command::Size { left, right, limit }) => {
             finish(size(alloc, left, right, limit, shelf), out)
         }
+        Some(
+            Command::Compare {
+                left,
+                right,
+                weights,
+                notions,
+                limit,
+            },
+        ) => finish(
+            compare(alloc, left, right, weights, notions, limit, shelf),
+            out,
+        ),
+        Some(Command::Demo { number }) => finish(demo(alloc, number), out),
     }
 }
 
 /// Does what the words ask for, over the devices, and writes the message of how it ended.
 ///
 /// The order is: the words; opening and reading the left file, then its grammar; the right file likewise; the formula;
-/// opening and reading the weights, then their grammar; the size; the writing. A command skips what it has not. The first
-/// refusal that is met is the answer. All memory is taken before the first byte is written. A message that cannot be written
-/// changes nothing of the answer.
+/// opening and reading the weights, then their grammar; the notions likewise; the size; the writing. A command skips what it
+/// has not. The first refusal that is met is the answer. All memory is taken before the first byte is written. A message that
+/// cannot be written changes nothing of the answer.
 pub fn run<H: Shelf, I: Source, O: Sink, E: Sink>(
     alloc: Global,
     words: &[String],

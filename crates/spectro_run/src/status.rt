@@ -1,11 +1,13 @@
 ghost use Rattle.std.specs.Prelude.{◌≡◌};
-ghost use Rattle.spectro_run.specs.Codes.{code_of, status_of};
+ghost use Rattle.spectro_run.specs.Codes.{code_of, refusal_of, status_of};
 ghost use Rattle.spectro_run.specs.Messages.{kind_name};
 ghost use Rattle.spectro_run.specs.declared.status.Status.TheVariants.{OutOfMemory};
 
 use spectro_aut::AutKind;
 use spectro_hmltext::TextKind;
 use spectro_io::ReadError;
+use spectro_notions::NotionKind;
+use spectro_report::ReportError;
 use spectro_weights::WeightKind;
 use std::alloc::AllocError;
 
@@ -46,6 +48,7 @@ pub enum Which {
     Formula,
     Certificate,
     Weights,
+    Notions,
 }
 
 /// Why a text was refused.
@@ -54,6 +57,7 @@ pub enum Kind {
     Aut(AutKind),
     Formula(TextKind),
     Weights(WeightKind),
+    Notions(NotionKind),
 }
 
 impl Kind {
@@ -65,6 +69,7 @@ impl Kind {
             Kind::Aut(kind) => kind.name(),
             Kind::Formula(kind) => kind.name(),
             Kind::Weights(kind) => kind.name(),
+            Kind::Notions(kind) => kind.name(),
         }
     }
 }
@@ -84,6 +89,17 @@ impl From<ReadError> for Status {
         match error {
             ReadError::Failed => Status::ReadFault,
             ReadError::OutOfMemory => Status::OutOfMemory,
+        }
+    }
+}
+
+impl From<ReportError> for Status {
+    ghost from_gives = { λ error status. status ≡ refusal_of error };
+
+    fn from(error: ReportError) -> Status {
+        match error {
+            ReportError::TooLarge { limit } => Status::TooLarge { limit },
+            ReportError::OutOfMemory => Status::OutOfMemory,
         }
     }
 }

@@ -6,10 +6,11 @@ ghost use Rattle.spectro_io.specs.Faults.{Rose};
 ghost use Rattle.spectro_aut.specs.Feeding.{HasTaken};
 ghost use Rattle.spectro_aut.specs.Texts.{IsText};
 ghost use Rattle.spectro_hmltext.specs.Parsing.{IsParsed};
+ghost use Rattle.spectro_notions.specs.NotionTexts.{IsNotionText};
 ghost use Rattle.spectro_weights.specs.WeightTexts.{IsWeightText};
 ghost use Rattle.spectro_words.specs.Words.{named};
 ghost use Rattle.spectro_run.specs.Reading.{IsUnread, LeavesRest, OrMemory, ReadsToEnd, TakesText};
-ghost use Rattle.spectro_run.specs.Refusals.{RefusesSystem, RefusesWeighing, formula_of, system_of, weighing_of};
+ghost use Rattle.spectro_run.specs.Refusals.{RefusesSystem, RefusesTable, RefusesWeighing, formula_of, system_of, table_of, weighing_of};
 ghost use Rattle.spectro_run.specs.Stops.{Counts, Stops, TakesStage};
 
 use crate::status::{BadText, Kind, Status, Which};
@@ -17,6 +18,7 @@ use spectro_aut::{AutError, Feed};
 use spectro_hmltext::{ParseError, Parsed, parse};
 use spectro_io::{Intake, Shelf, read_into};
 use spectro_lts::Lts;
+use spectro_notions::{NotionError, Notions, read_notions};
 use spectro_weights::{WeightError, Weights, read_weights};
 use std::alloc::Global;
 
@@ -118,4 +120,41 @@ pub fn take_weights<H: Shelf>(
     let mut bytes = Vec::new(alloc);
     take_text(name, &mut bytes, shelf)?;
     read_weighing(alloc, &bytes)
+}
+
+// The notions of the text.
+fn read_table(alloc: Global, bytes: &[u8]) -> Result<Notions, Status>
+    ensures ok { IfOk result (IsNotionText bytes.now) }
+    ensures refused { IfErr result (OrMemory (RefusesTable bytes.now)) }
+{
+    match read_notions(alloc, bytes) {
+        Ok(notions) => Ok(notions),
+        Err(NotionError::Text(fault)) => Err(Status::BadText(BadText {
+            which: Which::Notions,
+            at: fault.line,
+            kind: Kind::Notions(fault.kind),
+        })),
+        Err(NotionError::OutOfMemory) => Err(Status::OutOfMemory),
+    }
+}
+
+/// The notions of the text that the name holds. Where no name is given, they are the thirteen of the spectrum, and the shelf
+/// is left alone.
+pub fn take_notions<H: Shelf>(
+    alloc: Global,
+    name: Option<&str>,
+    shelf: &mut H,
+) -> Result<Notions, Status>
+    ensures stage { TakesStage (H.texts shelf.old) (named name.entry) (table_of (named name.entry)) (Rose (H.faults shelf.old) (H.faults shelf.new)) result }
+    ensures whole { IfErr result (ReadsToEnd (H.texts shelf.old) (named name.entry) Which.Notions (H.left shelf.new)) }
+    ensures counts { Counts (H.faults shelf.old) (H.faults shelf.new) result }
+    ensures texts { H.texts shelf.new ≡ H.texts shelf.old }
+    ensures alone { named name.entry ≡ None → shelf.new ≡ shelf.old }
+{
+    let Some(name) = name else {
+        return Ok(Notions::builtin(alloc));
+    };
+    let mut bytes = Vec::new(alloc);
+    take_text(name, &mut bytes, shelf)?;
+    read_table(alloc, &bytes)
 }

@@ -1,7 +1,8 @@
 ghost use Rattle.std.specs.Prelude.{◌≡◌, ◌+◌, ◌≤◌, length, IfOk, IfErr, Some};
 ghost use Rattle.spectro_aut.specs.RoundTrip.{KeepsLimits};
 ghost use Rattle.spectro_io.specs.Faults.{Rose};
-ghost use Rattle.spectro_run.specs.Commands.Size.{pairs_of, size_line};
+ghost use Rattle.spectro_run.specs.Commands.Size.{size_line};
+ghost use Rattle.spectro_run.specs.Comparisons.{RefusesSize};
 ghost use Rattle.spectro_run.specs.Measures.{IsMeasured};
 ghost use Rattle.spectro_run.specs.Reading.{JudgesWhole};
 ghost use Rattle.spectro_run.specs.Stops.{Counts, IsPrepared, Stops};
@@ -49,7 +50,7 @@ fn extent_of(alloc: Global, left: &Lts, right: &Lts, limit: u32) -> Result<Exten
     requires right { KeepsLimits right.now }
     requires limit { IsLimit limit }
     ensures ok { IfOk result (λ extent. IsMeasured left.now right.now limit extent.pairs extent.positions) }
-    ensures stopped { IfErr result (Stops (pairs_of left.now right.now limit).Refuses ⊥) }
+    ensures stopped { IfErr result (Stops (RefusesSize left.now right.now limit) ⊥) }
 {
     let both = Lts::join(alloc, left, right)?;
     let start = (left.initial(), left.states() + right.initial());

@@ -8,4 +8,5 @@ returns c =
     c.a_text_has_at_most_one_formula.ensures
     c.a_text_has_at_most_one_first_fault-2.ensures c.texts_of_formulas_have_no_fault.ensures c.a_text_has_at_most_one_weighing.ensures
     c.a_text_has_at_most_one_first_fault-3.ensures
-    c.texts_of_weighings_have_no_fault.ensures c.reached_pairs_are_one.ensures
+    c.texts_of_weighings_have_no_fault.ensures c.a_text_has_at_most_one_table.ensures c.a_text_has_at_most_one_first_fault-4.ensures
+    c.texts_of_tables_have_no_fault.ensures c.reached_pairs_are_one.ensures c.reports_are_one.ensures

@@ -22,8 +22,8 @@ returns-in_err-lts-clause-prepared g c =
     let file = c.in_err-lts.ensures.stage in
     let weights = some-held told (named c.args.weights) in
     rw (p.1, p.2) (record {
-      held = files_held file.held None weights.0;
-      are = are-held told (eval c.args.formula.now c.args.file.now (named c.args.weights)) file.held None weights.0 file.is refl weights.1;
+      held = files_held file.held None weights.0 None;
+      are = are-held told (eval c.args.formula.now c.args.file.now (named c.args.weights)) file.held None weights.0 None file.is refl weights.1 refl;
       ends = stops-first _ _ _ (λ failed. failed) file.ends;
     })
 
@@ -34,8 +34,8 @@ returns-in_err-parsed-clause-prepared g c =
     let file = c.in_ok-lts.ensures.stage in
     let weights = some-held told (named c.args.weights) in
     rw (p.1, p.2) (record {
-      held = files_held file.held None weights.0;
-      are = are-held told (eval c.args.formula.now c.args.file.now (named c.args.weights)) file.held None weights.0 file.is refl weights.1;
+      held = files_held file.held None weights.0 None;
+      are = are-held told (eval c.args.formula.now c.args.file.now (named c.args.weights)) file.held None weights.0 None file.is refl weights.1 refl;
       ends = stops-behind _ _ c.in_ok-lts.lts _ file.ends (λ failed. failed) (stops-first _ _ _ (λ failed. absurd failed) c.in_err-parsed.ensures.stopped);
     })
 
@@ -47,9 +47,9 @@ returns-in_err-weights-clause-prepared g c =
     let weights = rw c.in_ok-lts.ensures.texts at c.in_err-weights.ensures.stage in
     let rises = rose-wider _ _ _ _ c.in_ok-lts.ensures.counts.later (omega arith) in
     rw (p.1, p.2) (record {
-      held = files_held file.held None weights.held;
+      held = files_held file.held None weights.held None;
       are = are-held (g.H.Source.texts c.args.shelf.now)
-          (eval c.args.formula.now c.args.file.now (named c.args.weights)) file.held None weights.held file.is refl weights.is;
+          (eval c.args.formula.now c.args.file.now (named c.args.weights)) file.held None weights.held None file.is refl weights.is refl;
       ends = stops-behind _ _ c.in_ok-lts.lts _ file.ends (λ failed. failed)
           (stops-behind _ _ parsed.formula _ parsed.is_text rises (stops-first _ _ _ (λ failed. failed) weights.ends));
     })
@@ -60,9 +60,9 @@ returns-in_err-evaluate-clause-prepared g c =
     let file = c.in_ok-lts.ensures.stage in
     let weights = rw c.in_ok-lts.ensures.texts at c.in_ok-weights.ensures.stage in
     rw p.1 (record {
-      held = files_held file.held None weights.held;
+      held = files_held file.held None weights.held None;
       are = are-held (g.H.Source.texts c.args.shelf.now)
-          (eval c.args.formula.now c.args.file.now (named c.args.weights)) file.held None weights.held file.is refl weights.is;
+          (eval c.args.formula.now c.args.file.now (named c.args.weights)) file.held None weights.held None file.is refl weights.is refl;
       ends = no_memory p.2;
     })
 
@@ -78,9 +78,9 @@ returns-clause-prepared g c =
     ∙ ap (price c.in_ok-weights.weights) parsed.unfolds in
     let shown = c.in_ok-evaluate.ensures.parts ∙ c.parts_shown-parts.ensures in
     record {
-      held = files_held file.held None weights.held;
+      held = files_held file.held None weights.held None;
       are = are-held (g.H.Source.texts c.args.shelf.now)
-          (eval c.args.formula.now c.args.file.now (named c.args.weights)) file.held None weights.held file.is refl weights.is;
+          (eval c.args.formula.now c.args.file.now (named c.args.weights)) file.held None weights.held None file.is refl weights.is refl;
       ends = given system file.ends
           (given parsed.formula parsed.is_text
           (given c.in_ok-weights.weights weights.ends (given found.truth truth (refl, λ i. eval_text found.truth (shown i) (costs i)))));

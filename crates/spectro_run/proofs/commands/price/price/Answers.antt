@@ -21,8 +21,8 @@ returns-in_err-parsed-clause-prepared g c =
     let told = g.H.Source.texts c.args.shelf.now in
     let weights = some-held told (named c.args.weights) in
     rw (p.1, p.2) (record {
-      held = files_held None None weights.0;
-      are = are-held told (price c.args.formula.now (named c.args.weights)) None None weights.0 refl refl weights.1;
+      held = files_held None None weights.0 None;
+      are = are-held told (price c.args.formula.now (named c.args.weights)) None None weights.0 None refl refl weights.1 refl;
       ends = stops-first _ _ _ (λ failed. absurd failed) c.in_err-parsed.ensures.stopped;
     })
 
@@ -31,8 +31,8 @@ returns-in_err-weights-clause-prepared g c =
     let p = err_from_is_err_and c.from_residual-in_err-weights.result c.from_residual-in_err-weights.ensures.1 in
     let weights = c.in_err-weights.ensures.stage in
     rw (p.1, p.2) (record {
-      held = files_held None None weights.held;
-      are = are-held (g.H.Source.texts c.args.shelf.now) (price c.args.formula.now (named c.args.weights)) None None weights.held refl refl weights.is;
+      held = files_held None None weights.held None;
+      are = are-held (g.H.Source.texts c.args.shelf.now) (price c.args.formula.now (named c.args.weights)) None None weights.held None refl refl weights.is refl;
       ends = stops-behind _ _ c.in_ok-parsed.ensures.ok.formula _ c.in_ok-parsed.ensures.ok.is_text (λ failed. failed)
           (stops-first _ _ _ (λ failed. failed) weights.ends);
     })
@@ -42,8 +42,8 @@ returns-in_err-price-clause-prepared g c =
     let p = err_from_is_err_and c.from_residual-in_err-price.result c.from_residual-in_err-price.ensures.1 in
     let weights = c.in_ok-weights.ensures.stage in
     rw p.1 (record {
-      held = files_held None None weights.held;
-      are = are-held (g.H.Source.texts c.args.shelf.now) (price c.args.formula.now (named c.args.weights)) None None weights.held refl refl weights.is;
+      held = files_held None None weights.held None;
+      are = are-held (g.H.Source.texts c.args.shelf.now) (price c.args.formula.now (named c.args.weights)) None None weights.held None refl refl weights.is refl;
       ends = no_memory p.2;
     })
 
@@ -52,8 +52,8 @@ returns-in_err-text-clause-prepared g c =
     let p = err_from_is_err_and c.from_residual-in_err-text.result c.from_residual-in_err-text.ensures.1 in
     let weights = c.in_ok-weights.ensures.stage in
     rw p.1 (record {
-      held = files_held None None weights.held;
-      are = are-held (g.H.Source.texts c.args.shelf.now) (price c.args.formula.now (named c.args.weights)) None None weights.held refl refl weights.is;
+      held = files_held None None weights.held None;
+      are = are-held (g.H.Source.texts c.args.shelf.now) (price c.args.formula.now (named c.args.weights)) None None weights.held None refl refl weights.is refl;
       ends = no_memory p.2;
     })
 
@@ -71,8 +71,8 @@ returns-clause-prepared g c =
     let costs : price_of c.in_ok-price.price.parts ≡ spec.price c.in_ok-weights.weights parsed.formula = c.in_ok-price.ensures
     ∙ ap (spec.price c.in_ok-weights.weights) parsed.unfolds in
     record {
-      held = files_held None None weights.held;
-      are = are-held (g.H.Source.texts c.args.shelf.now) (price c.args.formula.now (named c.args.weights)) None None weights.held refl refl weights.is;
+      held = files_held None None weights.held None;
+      are = are-held (g.H.Source.texts c.args.shelf.now) (price c.args.formula.now (named c.args.weights)) None None weights.held None refl refl weights.is refl;
       ends = given parsed.formula parsed.is_text
           (given c.in_ok-weights.weights weights.ends (refl, λ i. priced_text (text i) (c.parts_shown-parts.ensures i) (costs i)));
     }

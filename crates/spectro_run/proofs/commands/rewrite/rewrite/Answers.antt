@@ -16,8 +16,8 @@ returns-in_err-lts-clause-prepared g c =
     let p = err_from_is_err_and c.from_residual.result c.from_residual.ensures.1 in
     let file = c.in_err-lts.ensures.stage in
     rw (p.1, p.2) (record {
-      held = files_held file.held None None;
-      are = are-held (g.H.Source.texts c.args.shelf.now) (rewrite c.args.file.now) file.held None None file.is refl refl;
+      held = files_held file.held None None None;
+      are = are-held (g.H.Source.texts c.args.shelf.now) (rewrite c.args.file.now) file.held None None None file.is refl refl refl;
       ends = stops-first (system_of Left file.held) (λ system. Writes (text_of system)) _ (λ failed. failed) file.ends;
     })
 
@@ -25,7 +25,7 @@ pub returns-clause-prepared : goal.returns-clause-prepared
 returns-clause-prepared g c =
     let file = c.in_ok-lts.ensures.stage in
     record {
-      held = files_held file.held None None;
-      are = are-held (g.H.Source.texts c.args.shelf.now) (rewrite c.args.file.now) file.held None None file.is refl refl;
+      held = files_held file.held None None None;
+      are = are-held (g.H.Source.texts c.args.shelf.now) (rewrite c.args.file.now) file.held None None None file.is refl refl refl;
       ends = given c.in_ok-lts.lts file.ends (refl, refl);
     }

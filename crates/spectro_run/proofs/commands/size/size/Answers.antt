@@ -17,8 +17,8 @@ returns-in_err-left-clause-prepared g c =
     let first = c.in_err-left.ensures.stage in
     let second = some-held told (Some c.args.right.now) in
     rw (p.1, p.2) (record {
-      held = files_held first.held second.0 None;
-      are = are-held told (size c.args.left.now c.args.right.now c.args.limit) first.held second.0 None first.is second.1 refl;
+      held = files_held first.held second.0 None None;
+      are = are-held told (size c.args.left.now c.args.right.now c.args.limit) first.held second.0 None None first.is second.1 refl refl;
       ends = stops-first _ _ _ (λ failed. failed) first.ends;
     })
 
@@ -29,8 +29,8 @@ returns-in_err-right-clause-prepared g c =
     let first = c.in_ok-left.ensures.stage in
     let second = rw c.in_ok-left.ensures.texts at c.in_err-right.ensures.stage in
     rw (p.1, p.2) (record {
-      held = files_held first.held second.held None;
-      are = are-held told (size c.args.left.now c.args.right.now c.args.limit) first.held second.held None first.is second.is refl;
+      held = files_held first.held second.held None None;
+      are = are-held told (size c.args.left.now c.args.right.now c.args.limit) first.held second.held None None first.is second.is refl refl;
       ends = stops-behind _ _ c.in_ok-left.left _ first.ends (rose-wider _ _ _ _ c.in_ok-left.ensures.counts.later (omega arith))
           (stops-first _ _ _ (λ failed. failed) second.ends);
     })
@@ -41,8 +41,8 @@ returns-clause-prepared g c =
     let first = c.in_ok-left.ensures.stage in
     let second = rw c.in_ok-left.ensures.texts at c.in_ok-right.ensures.stage in
     record {
-      held = files_held first.held second.held None;
-      are = are-held told (size c.args.left.now c.args.right.now c.args.limit) first.held second.held None first.is second.is refl;
+      held = files_held first.held second.held None None;
+      are = are-held told (size c.args.left.now c.args.right.now c.args.limit) first.held second.held None None first.is second.is refl refl;
       ends =
           ends-as c.extent_of.result c.extent_of.ensures.ok c.extent_of.ensures.stopped
           (λ extent is. given c.in_ok-left.left first.ends
