@@ -1,5 +1,7 @@
 //! Runs over devices in memory.
 
+mod compare;
+mod demo;
 mod eval;
 mod faults;
 mod price;
@@ -24,6 +26,42 @@ const LATE_CHOICE: &str = "des (0, 3, 3)\n(0, a, 1)\n(1, b, 2)\n(1, c, 2)\n";
 // One a.
 const ONE_STEP: &str = "des (0, 1, 2)\n(0, a, 1)\n";
 
+// One a, which stands twice.
+const REPEATED: &str = "des (0,2,2)\n(0,a,1)\n(0,\"a\",1)\n";
+
+// Either b or c.
+const CHOICE: &str = "des (0,2,2)\n(0,b,1)\n(0,c,1)\n";
+
+// Two places, first in and first out.
+const QUEUE: &str = "des (0, 12, 7)\n\
+    (0, \"PUT !0\", 1)\n\
+    (0, \"PUT !1\", 2)\n\
+    (1, \"PUT !0\", 3)\n\
+    (1, \"PUT !1\", 4)\n\
+    (1, \"GET !0\", 0)\n\
+    (2, \"PUT !0\", 5)\n\
+    (2, \"PUT !1\", 6)\n\
+    (2, \"GET !1\", 0)\n\
+    (3, \"GET !0\", 1)\n\
+    (4, \"GET !0\", 2)\n\
+    (5, \"GET !1\", 1)\n\
+    (6, \"GET !1\", 2)\n";
+
+// Two places that keep no order.
+const BAG: &str = "des (0, 12, 6)\n\
+    (0, \"PUT !0\", 1)\n\
+    (0, \"PUT !1\", 2)\n\
+    (1, \"PUT !0\", 3)\n\
+    (1, \"PUT !1\", 4)\n\
+    (1, \"GET !0\", 0)\n\
+    (2, \"PUT !0\", 4)\n\
+    (2, \"PUT !1\", 5)\n\
+    (2, \"GET !1\", 0)\n\
+    (3, \"GET !0\", 1)\n\
+    (4, \"GET !0\", 2)\n\
+    (4, \"GET !1\", 1)\n\
+    (5, \"GET !1\", 2)\n";
+
 // The second line is cut off.
 const CUT: &str = "des (0,1,2)\n(0,a";
 
@@ -36,7 +74,16 @@ const WEIGHTS: &str = "0 \"a\"\n5 \"b\"\n";
 // The second line weighs a label again.
 const TWICE: &str = "1 \"a\"\n2 \"a\"\n";
 
-const FILES: [(&str, &str); 8] = [
+// The label a costs seven.
+const SEVEN: &str = "7 \"a\"\n";
+
+// Traces of two steps, and bisimulation.
+const TWO: &str = "two-step-traces 2 1 0 0 0 0\nbisimulation * * * * * *\n";
+
+// The bound of the second line has two parts.
+const SHORT: &str = "traces * 1 0 0 0 0\nx 1 1\n";
+
+const FILES: [(&str, &str); 15] = [
     ("stopped.aut", STOPPED),
     ("step.aut", ONE_STEP),
     ("early.aut", EARLY_CHOICE),
@@ -45,6 +92,13 @@ const FILES: [(&str, &str); 8] = [
     ("headless.aut", HEADLESS),
     ("weights.txt", WEIGHTS),
     ("twice.txt", TWICE),
+    ("repeated.aut", REPEATED),
+    ("choice.aut", CHOICE),
+    ("queue.aut", QUEUE),
+    ("bag.aut", BAG),
+    ("seven.txt", SEVEN),
+    ("two.txt", TWO),
+    ("short.txt", SHORT),
 ];
 
 // How a run ended, and what it wrote.
@@ -80,7 +134,7 @@ fn run_words(alloc: Global, line: &str, fails: [u64; 3]) -> Result<Run, AllocErr
     let words = words_of(alloc, line)?;
     let mut shelf = shelf_with(alloc, &FILES, shelf_fails)?;
     let mut input = MemSource::new(alloc, b"", 1, &[])?;
-    let mut out = MemSink::new(alloc, 1000, 1, &[out_fails])?;
+    let mut out = MemSink::new(alloc, 4000, 1, &[out_fails])?;
     let mut err = MemSink::new(alloc, 1000, 1, &[err_fails])?;
     let status = run(
         alloc,

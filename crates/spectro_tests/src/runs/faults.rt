@@ -61,6 +61,8 @@ fn a_fault_of_the_output_is_answered_wherever_it_comes(rt: HostRuntime) -> Resul
         ("price tt", 7, "tt\npri"),
         ("rewrite step.aut", 20, "des (0, 1, 2)\n(0, \""),
         ("size stopped.aut stopped.aut", 8, "pairs 2"),
+        ("compare stopped.aut stopped.aut", 8, "left: 1"),
+        ("demo 1", 8, "demo 1\n"),
     ] {
         stops(&rt, rt.alloc(), line, [0, call, 0], 6, output, CANNOT_WRITE)?;
     }

@@ -30,6 +30,28 @@ fn each_refusal_has_its_code_and_its_message(rt: HostRuntime) -> Result<(), Fail
             4,
             "spectro: more than 38 positions\n",
         ),
+        ("compare stopped.aut", 2, "spectro: words not understood\n"),
+        ("demo 9001", 2, "spectro: words not understood\n"),
+        (
+            "compare stopped.aut step.aut --weights twice.txt --notions short.txt",
+            3,
+            "spectro: twice.txt:2: Repeated\n",
+        ),
+        (
+            "compare stopped.aut step.aut --notions short.txt --limit 1",
+            3,
+            "spectro: short.txt:2: BadLine\n",
+        ),
+        (
+            "compare stopped.aut stopped.aut --limit 7",
+            4,
+            "spectro: more than 7 positions\n",
+        ),
+        (
+            "compare nothing.aut stopped.aut",
+            5,
+            "spectro: cannot read\n",
+        ),
         ("rewrite nothing.aut", 5, "spectro: cannot read\n"),
     ] {
         refuses(&rt, rt.alloc(), line, code, message)?;
