@@ -24,6 +24,7 @@ pub mod FirstWithin
 pub mod SelfCovering
 pub mod Rounds
 pub mod Bounds
+pub mod Floors
 pub mod Solved
 pub mod Places
 pub mod Ranges

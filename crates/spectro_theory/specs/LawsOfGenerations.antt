@@ -1,8 +1,8 @@
 -- Laws of the generations, on pairs that have with each its followers.
-use Rattle.std.specs.Prelude.{ℕ, zero, suc, ◌≡◌, ◌≢◌, ◌<◌, ◌≤◌, ◌*◌, ◌↔◌, List, length, Contains, false, true}
-use Rattle.spectro_spec.specs.System.{System}
-use Rattle.spectro_spec.specs.Weighing.{Weighing, IsWeighing}
-use Rattle.spectro_spec.specs.Price.{Price}
+use Rattle.std.specs.Prelude.{ℕ, zero, suc, ◌≡◌, ◌≢◌, ◌<◌, ◌≤◌, ◌*◌, ◌↔◌, List, [], length, Contains, false, true}
+use Rattle.spectro_spec.specs.System.{Label, System, HasStep}
+use Rattle.spectro_spec.specs.Weighing.{Weighing, IsWeighing, weight_of}
+use Rattle.spectro_spec.specs.Price.{Price, IsAtMost}
 use Rattle.spectro_spec.specs.LeastPrices.{Covers, AreLeastPrices}
 use Rattle.spectro_game.specs.Pairs.{Pair, IsFollower, IsClosed, IsOneOf}
 use Rattle.spectro_game.specs.Reached.{StandsAt}
@@ -98,3 +98,26 @@ SolvedRowsAffordTheirPrices =
     → IsSolved weighing system pairs rows
     → (p : ℕ) (qs : List ℕ) (e : Price) → IsOneOf pairs p qs → Contains (listed_at pairs rows p qs) e
     → Affords weighing system (members_of (listed_at pairs rows)) p qs e
+
+-- one observation of this weight, in one conjunction
+abbrev pub floor_price : ℕ → Price
+floor_price least = record {
+  observations = 1;
+  conjunctions = 1;
+  deepest_positive = 0;
+  other_positive = 0;
+  deepest_negative = 0;
+  negations = 0;
+  weighted_depth = least;
+}
+
+-- no step is under a label that weighs less
+abbrev pub NoStepWeighsLess : Weighing → System → ℕ → Type 0
+NoStepWeighsLess weighing system least = (s t : ℕ) (label : Label) → HasStep system s label t → least ≤ weight_of weighing label
+
+-- where no step weighs less, what a generation affords has a conjunction, and to tell a state from some others costs at least the floor
+abbrev pub PricesStandOnAFloor : Type 0
+PricesStandOnAFloor =
+    (weighing : Weighing) (system : System) (least : ℕ) → NoStepWeighsLess weighing system least
+    → (k p : ℕ) (qs : List ℕ) (e : Price) → Affords weighing system (members_of (generation weighing system k)) p qs e
+    → (1 ≤ e.conjunctions) × (qs ≢ [] → IsAtMost (floor_price least) e)

@@ -4,6 +4,7 @@ ghost use Rattle.spectro_theory.specs.LawsOfGenerations.{
   MarksAreByChange,
   NextRowsAreGenerations,
   PartsAreLow,
+  PricesStandOnAFloor,
   RoundsAreGenerations,
   RowsAreByPlace,
   RowsListTheGeneration,
@@ -50,6 +51,12 @@ pub fn late_generations_are_exact()
 /// After generation `k` each of the parts 1 to 6 of a price is at most `k`, and the weighted depth at most `255 * k`.
 pub fn parts_are_low()
     ensures { PartsAreLow }
+{}
+
+/// Where no step weighs less than `least`, all that a generation affords has a conjunction, and to tell a state from some
+/// others takes an observation of that weight too.
+pub fn prices_stand_on_a_floor()
+    ensures { PricesStandOnAFloor }
 {}
 
 /// A generation after the first evaluates just the pairs of which some follower changed its list in the one before.

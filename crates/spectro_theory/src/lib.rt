@@ -10,9 +10,9 @@ mod systems;
 
 pub use generations::{
     late_generations_are_exact, late_generations_stay, marks_are_by_change,
-    next_rows_are_generations, parts_are_low, rounds_are_generations, rows_are_by_place,
-    rows_list_the_generation, settled_generations_are_exact, solved_rows_afford_their_prices,
-    unmarked_pairs_keep_their_lists,
+    next_rows_are_generations, parts_are_low, prices_stand_on_a_floor, rounds_are_generations,
+    rows_are_by_place, rows_list_the_generation, settled_generations_are_exact,
+    solved_rows_afford_their_prices, unmarked_pairs_keep_their_lists,
 };
 pub use notions::{
     first_within_is_shown, least_prices_are_one, least_prices_are_reached, least_prices_exist,
