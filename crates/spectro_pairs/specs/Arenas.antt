@@ -1,5 +1,5 @@
 -- What the calls of an arena answer.
-use Rattle.std.specs.Prelude.{ℕ, ◌≡◌, ◌≢◌, ◌≤◌, ◌-◌, ◌↔◌, List, [], ◌∷◌, Option, Some, None, Contains, length, slice_get}
+use Rattle.std.specs.Prelude.{ℕ, ◌≡◌, ◌≢◌, ◌≤◌, ◌-◌, ◌⊎◌, ◌↔◌, List, [], ◌∷◌, Option, Some, None, All, Contains, length, slice_get}
 use Rattle.std.specs.Option.{option_map_or}
 use Rattle.spectro_spec.specs.System.{Label, System}
 use Rattle.spectro_spec.specs.Weighing.{Weighing, weight_of}
@@ -54,12 +54,18 @@ pub record ArePredecessors (system : System) (pairs : List Pair) (k : ℕ) (pred
   pub here : StandsAt pairs k x
   pub exact : (j : ℕ) → Contains preds j ↔ ((y : Pair) × StandsAt pairs j y × IsFollower system y.state y.set x.state x.set)
 
--- there is a pair, the arena was explored from some system with at most two million steps, and each pair has its predecessors
-pub record IsArena (explored : Explored) (rows : List (List ℕ)) : Type 0 where
+-- no weight is less than this one, which is one of them, or 255 where there is none
+pub record IsLeastWeight (weights : List ℕ) (least : ℕ) : Type 0 where
+  pub low : All (λ weight. least ≤ weight) weights
+  pub reached : Contains weights least ⊎ ((weights ≡ []) × (least ≡ 255))
+
+-- there is a pair, the arena was explored from some system with at most two million steps, its least weight is known, and each pair has its predecessors
+pub record IsArena (explored : Explored) (least : ℕ) (rows : List (List ℕ)) : Type 0 where
   pub some : 1 ≤ length explored.pairs
   pub system : System
   pub weighing : Weighing
   pub starts : List (ℕ × ℕ)
   pub source : IsExploredFrom system weighing starts explored
   pub bound : length system.steps ≤ MAX_STEPS
+  pub low : IsLeastWeight explored.weights least
   pub preds : rows ≡ turned explored.followers

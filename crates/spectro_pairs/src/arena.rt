@@ -4,7 +4,7 @@ ghost use Rattle.spectro_game.specs.Pairs.{size, observed};
 ghost use Rattle.spectro_theory.specs.Reaching.{is_same_pair};
 ghost use Rattle.spectro_rows.specs.Rows.{row_at};
 ghost use Rattle.spectro_pairs.specs.Interned.{IsPairAt};
-ghost use Rattle.spectro_pairs.specs.Arenas.{set_at, FromEach, IsObservation, IsSubset, IsSwap, ArePredecessors};
+ghost use Rattle.spectro_pairs.specs.Arenas.{set_at, FromEach, IsLeastWeight, IsObservation, IsSubset, IsSwap, ArePredecessors};
 ghost use Rattle.spectro_pairs.specs.declared.pairs.TheConstants.{MAX_LIMIT};
 
 use crate::pairs::Pairs;
@@ -29,6 +29,7 @@ pub struct Arena {
     pub(crate) followers: Rows<u32>,
     pub(crate) labels: Rows<u32>,
     pub(crate) weights: Vec<u8>,
+    pub(crate) least: u8,
     pub(crate) preds: Rows<u32>,
 }
 
@@ -41,7 +42,7 @@ impl Model for Arena {
     ghost view = { λ a. record { pairs = a.pairs.pairs; followers = a.followers.rows; labels = a.labels.rows; weights = a.weights.items } };
 
     ghost invariant = { λ a. IsArena (record { pairs = a.pairs.pairs; followers = a.followers.rows; labels = a.labels.rows; weights = a.weights.items })
-        a.preds.rows };
+        a.least a.preds.rows };
 }
 
 impl Arena {
@@ -60,6 +61,13 @@ impl Arena {
         ensures bound { result ≤ MAX_LIMIT }
     {
         self.pairs.size()
+    }
+
+    /// The least weight of a label of the system: 255 where it has none.
+    pub fn least_weight(&self) -> u8
+        ensures least { IsLeastWeight self.now.weights result }
+    {
+        self.least
     }
 
     /// The state of pair `k`.

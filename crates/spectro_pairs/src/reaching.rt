@@ -2,6 +2,7 @@ ghost use Rattle.std.specs.Prelude.{◌≡◌, ◌≢◌, ◌<◌, ◌≤◌, Li
 ghost use Rattle.spectro_spec.specs.Weighing.{IsWeighing, weight_of};
 ghost use Rattle.spectro_game.specs.Pairs.{Pair, AreReachedPairs, size};
 ghost use Rattle.spectro_lts.specs.Labels.{labels_of};
+ghost use Rattle.spectro_pairs.specs.Arenas.{IsLeastWeight};
 ghost use Rattle.spectro_pairs.specs.Explored.{IsExploredFrom, start_pairs};
 ghost use Rattle.spectro_pairs.specs.Limits.{IsPastLimit};
 ghost use Rattle.spectro_pairs.specs.declared.pairs.TheConstants.{MAX_LIMIT};
@@ -40,11 +41,13 @@ pub fn explore(
     // An arena knows that its system has no more steps, since no row of it is longer.
     prove!(lts.step_count() <= MAX_STEPS);
     let preds = turn(alloc, &exploration.followers)?;
+    let least = least_of(&weights);
     Ok(Arena {
         pairs: exploration.pairs,
         followers: exploration.followers,
         labels: exploration.labels,
         weights,
+        least,
         preds,
     })
 }
@@ -61,4 +64,15 @@ fn label_weights(alloc: Global, lts: &Lts, weights: &Weights) -> Result<Vec<u8>,
     // That each weight is at most 255 is known from a call of `of`, also where there is no label.
     prove!(weights.of("") <= 255);
     Ok(bytes)
+}
+
+// The least of the weights: 255 where there is none.
+fn least_of(weights: &[u8]) -> u8
+    ensures { IsLeastWeight weights.now result }
+{
+    let mut least = u8::MAX;
+    for weight in weights {
+        least = least.min(*weight);
+    }
+    least
 }

@@ -1,7 +1,8 @@
 -- The loop expands each pair once, and ends where no more are found.
-use Rattle.std.proofs.Common.{ℕ, ◌≡◌, ◌<◌, length, ap, ◌∙◌, arith}
+use Rattle.std.proofs.Common.{ℕ, ◌≡◌, ◌<◌, length, ap, subst, ◌∙◌, arith}
 use Rattle.std.proofs.lemmas.Result.{err_from_is_err_and}
 use Rattle.spectro_rows.specs.Rows.{RowList}
+use Rattle.spectro_pairs.specs.Arenas.{IsLeastWeight}
 use Rattle.spectro_pairs.specs.Interned.{Interned}
 use Rattle.spectro_pairs.proofs.Exploring.{expanded-longer, explored-all, explored-more, explored-none, pairs-some, past-followers, past-starts, places-below, rows-all}
 use Rattle.spectro_pairs.proofs.reaching.explore.Goals as goal
@@ -86,6 +87,7 @@ invariant_of-result c =
       source = explored-all c.args.lts.now c.args.starts.now c.loop-k.exploration c.loop-k.k c.loop-k.invariant.explored all c.args.weights.now
           c.in_ok-weights.weights.items c.len.ensures.within c.in_ok-weights.ensures.bytes c.in_ok-weights.ensures.proper;
       bound = omega (arith, c.step_count.ensures.value, c.step_count.ensures.bound);
+      low = subst (λ weights. IsLeastWeight weights c.least_of-least.result) c.deref.ensures.value c.least_of-least.ensures;
       preds = ap (λ (r : RowList ℕ). r.rows) c.in_ok-preds.ensures;
     }
 
