@@ -18,13 +18,13 @@ use Rattle.spectro_theory.proofs.Divided.{IsDivided-all_right}
 use Rattle.spectro_theory.proofs.Followers.{follows_observed, follows_swapped}
 use Rattle.spectro_theory.proofs.LeastLists.{same_by_cover}
 use Rattle.spectro_theory.proofs.Places.{Contains-stands, StandsIn-member, stands-below}
-use Rattle.spectro_theory.proofs.PriceOrder.{IsAtMost-refl}
+use Rattle.spectro_theory.proofs.PriceOrder.{IsAtMost-refl, IsAtMost-trans}
 use Rattle.spectro_theory.proofs.ReachedPairs.{reached-closed}
 use Rattle.spectro_rows.specs.Rows.{row_at}
 use Rattle.spectro_pairs.specs.Explored.{Explored, IsExploredFrom, start_pairs}
-use Rattle.spectro_solve.specs.Added.{IsAdded, IsMadeBy}
+use Rattle.spectro_solve.specs.Added.{AreSomeAdded, IsAdded, IsMadeBy}
 use Rattle.spectro_solve.specs.Choices.{AffordsConjunction}
-use Rattle.spectro_solve.specs.Fresh.{AffordsFreshAmong, AffordsTurned, AreSplitsAdded, IsKept, IsNegatedBy}
+use Rattle.spectro_solve.specs.Fresh.{AffordsFreshAmong, AffordsTurned, AreSplitsAdded, AreSplitsAddedToFloor, IsAddedToFloor, IsFloor, IsKept, IsNegatedBy}
 use Rattle.spectro_solve.proofs.Listing.{listed-at}
 use Rattle.spectro_solve.proofs.NamedObservations.{observed-step, step-observed}
 
@@ -140,6 +140,27 @@ module _ (system : System) (weighing : Weighing) (starts : List (ℕ × ℕ)) (e
           ]
 
   -- ---- all of it
+  -- the copy of the old list is sound
+  from-old : (empty old : List Price) → empty ≡ [] → IsAdded (Covers (row_at rows k)) empty old
+      → (e : Price) → Covers old e → Affords weighing system (members_of table) x.state x.set e
+  from-old empty old none first e covered = elim ((first e).0 covered) [
+    | inl before ↦ (let at = subst (λ es. Covers es e) none before in absurd (Contains-none at.0 at.1))
+    | inr own ↦ kept.sound e own
+  ]
+
+  -- a list that reaches the floor covers all that is afforded
+  floored : (f : Price) → IsFloor explored.weights x.set f → (n : ℕ) → (empty old new : List Price) → empty ≡ [] → Rises new → AreApart new
+      → IsAdded (Covers (row_at rows k)) empty old → AreSomeAdded (AffordsFreshAmong weighing system explored rows fresh x n) old new → Covers new f
+      → new ≡ backward_step weighing system table x.state x.set
+  floored f floor n empty old new none rises apart first some (g, member, low) =
+      same_by_cover new (backward_step weighing system table x.state x.set) rises (backward_step-rises weighing system table x.state x.set) apart
+      (backward_step-apart weighing system table x.state x.set)
+      (λ e covered. affords-backward_step weighing system table x.state x.set e (elim (some.sound e covered) [
+        | inl before ↦ from-old empty old none first e before
+        | inr observed ↦ observation-sound n e observed
+      ]))
+      (λ e covered. (g, member, IsAtMost-trans low (floor e (kept.on_floor e (backward_step-affords weighing system table x.state x.set e covered)))))
+
   made-by : (n : ℕ) → length (observed system x) ≤ n → (Splits : Price → Type 0) (empty old mid new : List Price) → empty ≡ [] → Rises new → AreApart new
       → IsAdded (Covers (row_at rows k)) empty old → IsAdded (AffordsFreshAmong weighing system explored rows fresh x n) old mid → IsAdded Splits mid new
       → ((e : Price) → Splits e → AffordsConjunction table x e) → ((e : Price) → AffordsConjunction table x e → Covers (row_at rows k) e ⊎ Splits e)
@@ -150,14 +171,8 @@ module _ (system : System) (weighing : Weighing) (starts : List (ℕ × ℕ)) (e
       (λ e covered. affords-backward_step weighing system table x.state x.set e (there e ((third e).0 covered)))
       (λ e covered. back e (backward_step-affords weighing system table x.state x.set e covered))
     where
-      from-old : (e : Price) → Covers old e → Affords weighing system (members_of table) x.state x.set e
-      from-old e covered = elim ((first e).0 covered) [
-        | inl before ↦ (let at = subst (λ es. Covers es e) none before in absurd (Contains-none at.0 at.1))
-        | inr own ↦ kept.sound e own
-      ]
-
       there : (e : Price) → Covers mid e ⊎ Splits e → Affords weighing system (members_of table) x.state x.set e
-      there e (inl before) = elim ((second e).0 before) [ inl covered ↦ from-old e covered | inr observed ↦ observation-sound n e observed ]
+      there e (inl before) = elim ((second e).0 before) [ inl covered ↦ from-old empty old none first e covered | inr observed ↦ observation-sound n e observed ]
       there e (inr split) = inr (sound e split)
 
       own-covered : (e : Price) → Covers (row_at rows k) e → Covers new e
@@ -170,7 +185,7 @@ module _ (system : System) (weighing : Weighing) (starts : List (ℕ × ℕ)) (e
       ]
       back e (inr split) = elim (full e split) [ inl own ↦ own-covered e own | inr more ↦ (third e).1 (inr more) ]
 
-  pub fresh-evaluated : (n : ℕ) → length (observed system x) ≤ n → (empty old mid new : List Price) → empty ≡ [] → Rises new → AreApart new
+  fresh-evaluated : (n : ℕ) → length (observed system x) ≤ n → (empty old mid new : List Price) → empty ≡ [] → Rises new → AreApart new
       → IsAdded (Covers (row_at rows k)) empty old → IsAdded (AffordsFreshAmong weighing system explored rows fresh x n) old mid
       → AreSplitsAdded explored rows fresh x mid new → new ≡ backward_step weighing system table x.state x.set
   fresh-evaluated n all empty old mid new none rises apart first second (inl (one, added)) =
@@ -190,3 +205,19 @@ module _ (system : System) (weighing : Weighing) (starts : List (ℕ × ℕ)) (e
       (λ e never. absurd never) (λ e split. inl (kept.split some stale e split))
   fresh-evaluated n all empty old mid new none rises apart first second (inr (inr added)) =
       made-by n all (AffordsConjunction table x) empty old mid new none rises apart first second added (λ e split. split) (λ e split. inr split)
+
+  some-of : (f : Price) (Made : Price → Type 0) (old mid : List Price) → IsAddedToFloor f Made old mid → AreSomeAdded Made old mid
+  some-of f Made old mid (inl added) = record { sound = λ e covered. (added e).0 covered; kept = λ e covered. (added e).1 (inl covered) }
+  some-of f Made old mid (inr (some, covers)) = some
+
+  pub evaluated-to-floor : (f : Price) → IsFloor explored.weights x.set f → (n : ℕ) → length (observed system x) ≤ n → (empty old mid new : List Price) → empty ≡ []
+      → Rises new → AreApart new → IsAdded (Covers (row_at rows k)) empty old
+      → IsAddedToFloor f (AffordsFreshAmong weighing system explored rows fresh x n) old mid → AreSplitsAddedToFloor f explored rows fresh x mid new
+      → new ≡ backward_step weighing system table x.state x.set
+  evaluated-to-floor f floor n all empty old mid new none rises apart first observed (inl (covers, still)) =
+      floored f floor n empty old new none rises apart first
+      (subst (AreSomeAdded (AffordsFreshAmong weighing system explored rows fresh x n) old) (sym still)
+      (some-of f (AffordsFreshAmong weighing system explored rows fresh x n) old mid observed)) (subst (λ l. Covers l f) (sym still) covers)
+  evaluated-to-floor f floor n all empty old mid new none rises apart first (inl added) (inr (above, splits)) =
+      fresh-evaluated n all empty old mid new none rises apart first added splits
+  evaluated-to-floor f floor n all empty old mid new none rises apart first (inr (some, covers)) (inr (above, splits)) = absurd (above covers)

@@ -1,9 +1,12 @@
 -- After each generation a pair's list has what the followers make whose lists did not change in it.
-use Rattle.std.proofs.Common.{ℕ, zero, suc, ◌≡◌, ◌≢◌, inl, inr, List, [], ◌∷◌, Bool, Contains, refl, sym, ap, subst, ◌∙◌}
+use Rattle.std.proofs.Common.{ℕ, zero, suc, ◌≡◌, ◌≢◌, inl, inr, List, [], ◌∷◌, Bool, Option, Some, None, All, Contains, ◌≤◌, map, position, refl, sym, ap, subst, ◌∙◌, arith}
+use Rattle.std.specs.Str.{bytes_eq}
+use Rattle.std.proofs.lemmas.List.Elements.{All-contains}
 use Rattle.spectro_spec.specs.System.{System, post}
 use Rattle.spectro_spec.specs.Weighing.{Weighing, weight_of}
 use Rattle.spectro_spec.specs.Price.{Price, IsAtMost}
 use Rattle.spectro_spec.specs.LeastPrices.{Covers}
+use Rattle.spectro_spec.proofs.Membership.{Contains-map}
 use Rattle.spectro_spec.proofs.Members.{Contains-cases, Contains-first, Contains-none}
 use Rattle.spectro_game.specs.Update.{inverse, observe, to_negative, to_other}
 use Rattle.spectro_game.specs.Divisions.{IsDivided, nothing, to_left}
@@ -14,6 +17,8 @@ use Rattle.spectro_game.specs.Generations.{Table, generation, members_of}
 use Rattle.spectro_game.specs.Rows.{generation_rows, listed_at}
 use Rattle.spectro_theory.proofs.BackwardSteps.{affords-backward_step, backward_step-affords, generation-AreGenerations}
 use Rattle.spectro_theory.proofs.Divided.{Contains-divided_cases, Contains-right, IsDivided-all_right, divided_at}
+use Rattle.spectro_theory.specs.LawsOfGenerations.{NoStepWeighsLess}
+use Rattle.spectro_theory.proofs.Floors.{generation-floor}
 use Rattle.spectro_theory.proofs.Followers.{follows_subset, follows_swapped}
 use Rattle.spectro_theory.proofs.Locality.{Affords-grows}
 use Rattle.spectro_theory.proofs.MappedPlaces.{map-at}
@@ -23,9 +28,11 @@ use Rattle.spectro_theory.proofs.Ranks.{grows}
 use Rattle.spectro_theory.proofs.ReachedPairs.{reached-closed}
 use Rattle.spectro_theory.proofs.RowsOfGenerations.{listed_at-generation}
 use Rattle.spectro_rows.specs.Rows.{row_at}
+use Rattle.spectro_lts.specs.Labels.{labels_of}
+use Rattle.spectro_lts.proofs.LabelLaws.{found_label, no_step_has}
 use Rattle.spectro_pairs.specs.Explored.{Explored, IsExploredFrom, start_pairs}
 use Rattle.spectro_solve.specs.Added.{IsMadeBy}
-use Rattle.spectro_solve.specs.Fresh.{AreFresh, IsKept, IsSplitFollower}
+use Rattle.spectro_solve.specs.Fresh.{AreFresh, IsKept, IsOnFloor, IsSplitFollower}
 use Rattle.spectro_solve.specs.Marks.{IsMarked}
 
 -- all members on the left
@@ -89,6 +96,31 @@ module _ (weighing : Weighing) (system : System) (starts : List (ℕ × ℕ)) (e
   number-of : (x y : Pair) → IsOneOf explored.pairs x.state x.set → IsFollower system x.state x.set y.state y.set → (j : ℕ) × StandsAt explored.pairs j y
   number-of x y known follows = StandsIn-member explored.pairs y (closed x.state x.set y.state y.set known follows)
 
+  -- no step is under a label that weighs less than all labels of the system do
+  light : (least : ℕ) → All (λ weight. least ≤ weight) explored.weights → NoStepWeighsLess weighing system least
+  light least low s t label step = All-contains (λ weight. least ≤ weight) (map (weight_of weighing) (labels_of system.steps)) (weight_of weighing label)
+      (subst (All (λ weight. least ≤ weight)) source.weights low)
+      (Contains-map (weight_of weighing) (labels_of system.steps) label (label-there (position (bytes_eq label) (labels_of system.steps)) refl))
+    where
+      label-there : (found : Option ℕ) → position (bytes_eq label) (labels_of system.steps) ≡ found → Contains (labels_of system.steps) label
+      label-there None none = absurd (no_step_has system.steps label (record { source = s; label = label; target = t }) none refl step)
+      label-there (Some n) some = Contains-stands (labels_of system.steps) label (n, found_label (labels_of system.steps) label n some)
+
+  on-floor : (n : ℕ) → rows ≡ generation_rows weighing system explored.pairs n → (k : ℕ) (x : Pair) → StandsAt explored.pairs k x
+      → (e : Price) → Affords weighing system (members_of (listed_at explored.pairs rows)) x.state x.set e → IsOnFloor explored.weights x.set e
+  on-floor n is k x here e afforded =
+      let over = Affords-grows weighing system (members_of (listed_at explored.pairs rows)) (members_of (generation weighing system n)) x.state x.set
+      (λ p qs f follows member. (
+        f,
+        subst (λ es. Contains es f)
+            (listed n is x (Contains-stands explored.pairs x (k, here)) (record { state = p; set = qs }) follows) member,
+        IsAtMost-refl f,
+      )) e afforded in
+      record {
+        conjunctions = (generation-floor weighing system 0 (λ s t label step. omega arith) n x.state x.set e over).0;
+        observation = λ some least low. (generation-floor weighing system least (light least low) n x.state x.set e over).1 some;
+      }
+
   -- before the first generation all lists are empty, so that nothing is made of them
   kept-first : rows ≡ generation_rows weighing system explored.pairs 0 → (k : ℕ) (x : Pair) → StandsAt explored.pairs k x
       → IsKept weighing system explored rows fresh k x
@@ -99,6 +131,7 @@ module _ (weighing : Weighing) (system : System) (starts : List (ℕ × ℕ)) (e
     turned = λ q j alone apart there stale e (f, member, low). absurd (empty j (record { state = q; set = x.state ∷ [] }) there f member);
     split = λ some stale e (b, split, low). absurd (no-split x.state x.set b some (split-same (listed_at explored.pairs rows) (λ p qs. []) x b
         (λ y by. nothing-listed y (closed x.state x.set y.state y.set (Contains-stands explored.pairs x (k, here)) (split-follows system x y by))) split));
+    on_floor = on-floor 0 is k x here;
   }
     where
       empty : (j : ℕ) (y : Pair) → StandsAt explored.pairs j y → (f : Price) → Contains (row_at rows j) f → ⊥
@@ -177,6 +210,7 @@ module _ (weighing : Weighing) (system : System) (starts : List (ℕ × ℕ)) (e
                 ∙ before-is number.0 y number.1 (stale number.0 y number.1 by)) split,
             low,
           ));
+      on_floor = on-floor (suc m) is k x here;
     }
 
   pub kept-after : (n : ℕ) → rows ≡ generation_rows weighing system explored.pairs n → AreFresh weighing system explored.pairs n fresh → (k : ℕ) (x : Pair)

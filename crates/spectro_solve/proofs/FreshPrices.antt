@@ -1,5 +1,5 @@
 -- What fresh lists make, and what a pair's list has already.
-use Rattle.std.proofs.Common.{ℕ, ◌≡◌, ◌≢◌, ◌⊎◌, inl, inr, ◌+◌, ◌<◌, List, [], ◌∷◌, Bool, length, refl, sym, ap, subst, ◌∙◌, arith, Some, None}
+use Rattle.std.proofs.Common.{ℕ, ◌≡◌, ◌≢◌, ◌⊎◌, inl, inr, ◌+◌, ◌<◌, ◌≤◌, List, [], ◌∷◌, Bool, length, refl, sym, ap, subst, ◌∙◌, arith, Some, None}
 use Rattle.std.specs.Prelude.{◌↔◌}
 use Rattle.spectro_spec.specs.System.{System}
 use Rattle.spectro_spec.specs.Weighing.{Weighing, weight_of}
@@ -11,7 +11,7 @@ use Rattle.spectro_theory.proofs.Places.{stands-one}
 use Rattle.spectro_pairs.specs.Arenas.{IsObservation, IsSwap}
 use Rattle.spectro_pairs.specs.Explored.{Explored, IsExploredFrom, observed_labels}
 use Rattle.spectro_rows.specs.Rows.{row_at}
-use Rattle.spectro_solve.specs.Added.{IsMadeBy}
+use Rattle.spectro_solve.specs.Added.{AreSomeAdded, IsAdded, IsMadeBy}
 use Rattle.spectro_solve.specs.Fresh.{AffordsFreshAmong, AffordsFreshAt, AffordsTurned, IsFreshNegated, IsNegatedBy}
 use Rattle.spectro_solve.specs.Marks.{IsMarked}
 
@@ -65,6 +65,18 @@ fresh-more weighing system explored rows fresh x n e = (
   ]),
   (λ h. elim h [ inl (i, below, at) ↦ (i, omega (arith, below), at) | inr at ↦ (n, omega arith, at) ]),
 )
+
+-- what some of the observations make is some of what all make
+pub some-fresh : (weighing : Weighing) (system : System) (explored : Explored) (rows : List (List Price)) (fresh : List Bool) (x : Pair) (m n : ℕ) → m ≤ n
+    → (old new : List Price) → IsAdded (AffordsFreshAmong weighing system explored rows fresh x m) old new
+    → AreSomeAdded (AffordsFreshAmong weighing system explored rows fresh x n) old new
+some-fresh weighing system explored rows fresh x m n fewer old new added = record {
+  sound = λ e covered. elim ((added e).0 covered) [
+    | inl before ↦ inl before
+    | inr (i, below, at) ↦ inr (i, omega (arith, below, fewer), at)
+  ];
+  kept = λ e covered. (added e).1 (inl covered);
+}
 
 -- a list of one member
 one-member : (qs : List ℕ) (q : ℕ) → length qs ≡ 1 → StandsAt qs 0 q → qs ≡ q ∷ []

@@ -25,6 +25,11 @@ IsClauseBy sign es e = (f : Price) × Contains es f × IsAtMost (inverse to_othe
 abbrev pub IsJoinedBy : List Price → List Price → Price → Type 0
 IsJoinedBy chosen es e = (b : Price) × Covers chosen b × IsMadeBy to_deepest es b × IsAtMost (inverse conjoin b) e
 
+-- the new list covers what the old one does, and no more than that and what is made
+pub record AreSomeAdded (Made : Price → Type 0) (old new : List Price) : Type 0 where
+  pub sound : (e : Price) → Covers new e → Covers old e ⊎ Made e
+  pub kept : Grows old new
+
 -- the new list covers what the old one does and what is wanted, but for what is of no use: what a conjunction makes of it is made already
 pub record AreChosen (Wanted : Price → Type 0) (made old new : List Price) : Type 0 where
   pub sound : (e : Price) → Covers new e → Covers old e ⊎ Wanted e

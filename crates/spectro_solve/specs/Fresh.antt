@@ -1,5 +1,5 @@
 -- Which lists changed in the generation before, and what a pair's list has already of what its followers make.
-use Rattle.std.specs.Prelude.{ℕ, ⊤, zero, suc, ◌≡◌, ◌≢◌, ◌<◌, ◌≤◌, ◌⊎◌, Bool, List, [], ◌∷◌, length, Contains}
+use Rattle.std.specs.Prelude.{ℕ, ⊤, zero, suc, ◌≡◌, ◌≢◌, ◌<◌, ◌≤◌, ◌⊎◌, Bool, List, [], ◌∷◌, length, All, Contains}
 use Rattle.spectro_spec.specs.System.{Label, System, HasStep, post}
 use Rattle.spectro_spec.specs.Weighing.{Weighing, weight_of}
 use Rattle.spectro_spec.specs.Price.{Price, IsAtMost}
@@ -11,9 +11,10 @@ use Rattle.spectro_game.specs.Reached.{StandsAt}
 use Rattle.spectro_game.specs.BackwardStep.{Affords}
 use Rattle.spectro_game.specs.Generations.{generation, members_of}
 use Rattle.spectro_game.specs.Rows.{listed_at}
+use Rattle.spectro_theory.specs.LawsOfGenerations.{floor_price}
 use Rattle.spectro_rows.specs.Rows.{row_at}
 use Rattle.spectro_pairs.specs.Explored.{Explored, observed_labels}
-use Rattle.spectro_solve.specs.Added.{IsAdded, IsMadeBy}
+use Rattle.spectro_solve.specs.Added.{AreSomeAdded, IsAdded, IsMadeBy}
 use Rattle.spectro_solve.specs.Choices.{AffordsConjunction}
 use Rattle.spectro_solve.specs.Evaluations.{AtPair}
 use Rattle.spectro_solve.specs.Marks.{IsMarked}
@@ -47,6 +48,19 @@ AffordsTurned explored rows fresh x e = (q : ℕ) × (j : ℕ) × (x.set ≡ q �
 abbrev pub HasStaleSplits : Explored → List Bool → Pair → Type 0
 HasStaleSplits explored fresh x = (j : ℕ) (y : Pair) → StandsAt explored.pairs j y → IsSplitFollower x y → ¬ IsMarked fresh j
 
+-- the price has a conjunction, and to tell a state from some others an observation that costs no less than where no label weighs less
+pub record IsOnFloor (weights set : List ℕ) (e : Price) : Type 0 where
+  pub conjunctions : 1 ≤ e.conjunctions
+  pub observation : set ≢ [] → (least : ℕ) → All (λ weight. least ≤ weight) weights → IsAtMost (floor_price least) e
+
+-- the price is at most each that stands on the floor
+abbrev pub IsFloor : List ℕ → List ℕ → Price → Type 0
+IsFloor weights set f = (e : Price) → IsOnFloor weights set e → IsAtMost f e
+
+-- all that is made was added, or some of it, so that the floor is reached
+abbrev pub IsAddedToFloor : Price → (Price → Type 0) → List Price → List Price → Type 0
+IsAddedToFloor f Made old new = IsAdded Made old new ⊎ (AreSomeAdded Made old new × Covers new f)
+
 -- the list of pair k, which is x, has what the followers make that are not fresh, and no more than the rows afford
 pub record IsKept (weighing : Weighing) (system : System) (explored : Explored) (rows : List (List Price)) (fresh : List Bool) (k : ℕ) (x : Pair) : Type 0 where
   pub sound : (e : Price) → Covers (row_at rows k) e → Affords weighing system (members_of (listed_at explored.pairs rows)) x.state x.set e
@@ -55,6 +69,7 @@ pub record IsKept (weighing : Weighing) (system : System) (explored : Explored) 
   pub turned : (q j : ℕ) → x.set ≡ q ∷ [] → x.state ≢ q → StandsAt explored.pairs j (record { state = q; set = x.state ∷ [] }) → ¬ IsMarked fresh j
       → (e : Price) → IsNegatedBy (row_at rows j) e → Covers (row_at rows k) e
   pub split : x.set ≢ [] → HasStaleSplits explored fresh x → (e : Price) → AffordsConjunction (listed_at explored.pairs rows) x e → Covers (row_at rows k) e
+  pub on_floor : (e : Price) → Affords weighing system (members_of (listed_at explored.pairs rows)) x.state x.set e → IsOnFloor explored.weights x.set e
 
 -- so has that of pair k, for each system and each weighing from which the arena was explored
 abbrev pub KeepsAt : Explored → List (List Price) → List Bool → ℕ → Type 0
@@ -83,6 +98,10 @@ AreSplitsAdded explored rows fresh x old new =
     ((length x.set ≡ 1) × IsAdded (AffordsTurned explored rows fresh x) old new)
     ⊎ (((x.set ≢ []) × HasStaleSplits explored fresh x × (new ≡ old))
     ⊎ IsAdded (AffordsConjunction (listed_at explored.pairs rows) x) old new)
+
+-- nothing was added to a list that reaches the floor, and to any other what splits make
+abbrev pub AreSplitsAddedToFloor : Price → Explored → List (List Price) → List Bool → Pair → List Price → List Price → Type 0
+AreSplitsAddedToFloor f explored rows fresh x old new = (Covers old f × (new ≡ old)) ⊎ ((¬ Covers old f) × AreSplitsAdded explored rows fresh x old new)
 
 -- the flags say which lists generation n changed; before the first one all lists are empty, and the flags say nothing
 abbrev pub AreFresh : Weighing → System → List Pair → ℕ → List Bool → Type 0

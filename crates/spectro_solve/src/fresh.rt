@@ -5,7 +5,9 @@ ghost use Rattle.spectro_spec.specs.LeastPrices.{Covers};
 ghost use Rattle.spectro_game.specs.Pairs.{observed};
 ghost use Rattle.spectro_game.specs.Reached.{StandsAt};
 ghost use Rattle.spectro_game.specs.Rows.{listed_at};
+ghost use Rattle.spectro_energy.specs.Energy.{price_of};
 ghost use Rattle.spectro_pairs.specs.Arenas.{set_at};
+ghost use Rattle.spectro_pairs.specs.Interned.{IsPairAt};
 ghost use Rattle.spectro_rows.specs.Rows.{row_at};
 ghost use Rattle.spectro_solve.specs.Added.{IsAdded};
 ghost use Rattle.spectro_solve.specs.Evaluations.{AtPair, IsEvaluated};
@@ -14,9 +16,12 @@ ghost use Rattle.spectro_solve.specs.Fresh.{
   AffordsFreshAt,
   AffordsTurned,
   AreSplitsAdded,
+  AreSplitsAddedToFloor,
   HasStaleSplits,
   HasStaleSubsets,
   HasStaleSwaps,
+  IsAddedToFloor,
+  IsFloor,
   IsFreshNegated,
   IsNegatedBy,
   IsStaleSwap,
@@ -30,7 +35,7 @@ use crate::marks::Marks;
 use crate::pulls::add_pulled;
 use crate::splits::add_splits;
 use crate::steps::Steps;
-use spectro_energy::Update;
+use spectro_energy::{Energy, Update};
 use spectro_lanes::Antichain;
 use spectro_pairs::Arena;
 use std::alloc::AllocError;
@@ -58,11 +63,28 @@ pub(crate) fn evaluate_fresh<L: Ledger>(
     steps.count();
     made.clear();
     add_all(made, &lists[k as usize])?;
-    add_fresh_observations(arena, lists, fresh, k, made)?;
-    add_fresh_splits(arena, lists, fresh, k, work, made)?;
+    let floor = floor_at(arena, k);
+    add_fresh_observations(arena, lists, fresh, k, floor, made)?;
+    add_splits_to_floor(arena, lists, fresh, k, floor, work, made)?;
     // That a list rises and that its members are apart is known from a call of `len`.
     prove!(made.len() <= usize::MAX);
     Ok(())
+}
+
+// No energy at pair `k` is below this one: a conjunction and, to tell its state from some others, an observation of the least
+// weight.
+fn floor_at(arena: &Arena, k: u32) -> Energy
+    requires pair { k < length arena.now.pairs }
+    ensures { IsPairAt arena.now.pairs k (λ x. IsFloor arena.now.weights x.set (price_of result.parts)) }
+{
+    let (observations, weight) = if arena.set(k).is_empty() {
+        (0, 0)
+    } else {
+        (1, u32::from(arena.least_weight()))
+    };
+    Energy {
+        parts: [observations, 1, 0, 0, 0, 0, weight],
+    }
 }
 
 // Adds all members.
@@ -75,12 +97,13 @@ fn add_all(made: &mut Antichain, from: &Antichain) -> Result<(), AllocError>
     Ok(())
 }
 
-// Adds what the observations of pair `k` make that lead to fresh pairs.
+// Adds what the observations of pair `k` make that lead to fresh pairs, until the floor is reached.
 fn add_fresh_observations(
     arena: &Arena,
     lists: &[Antichain],
     fresh: &Marks,
     k: u32,
+    floor: Energy,
     made: &mut Antichain,
 ) -> Result<(), AllocError>
     requires pair { k < length arena.now.pairs }
@@ -88,9 +111,13 @@ fn add_fresh_observations(
     requires room { HaveRoom lists.now }
     requires fresh { length fresh.now ≡ length arena.now.pairs }
     ensures { OnOk result (AtPair arena.now k (λ system weighing x.
-        IsAdded (AffordsFreshAmong weighing system arena.now lists.now fresh.now x (length (observed system x))) made.old made.new)) }
+        IsAddedToFloor (price_of floor.parts) (AffordsFreshAmong weighing system arena.now lists.now fresh.now x (length (observed system x)))
+        made.old made.new)) }
 {
     for i in 0..arena.observation_count(k) {
+        if made.covers(floor) {
+            return Ok(());
+        }
         add_fresh_observation(arena, lists, fresh, k, i, made)?;
     }
     Ok(())
@@ -121,6 +148,29 @@ fn add_fresh_observation(
         weight: observation.weight,
     };
     add_pulled(made, &lists[observation.pair as usize], update)
+}
+
+// Adds what the splits of the set of pair `k` make, unless the floor is reached.
+fn add_splits_to_floor(
+    arena: &Arena,
+    lists: &[Antichain],
+    fresh: &Marks,
+    k: u32,
+    floor: Energy,
+    work: &mut Work,
+    made: &mut Antichain,
+) -> Result<(), AllocError>
+    requires pair { k < length arena.now.pairs }
+    requires lists { length lists.now ≡ length arena.now.pairs }
+    requires room { HaveRoom lists.now }
+    requires fresh { length fresh.now ≡ length arena.now.pairs }
+    ensures { OnOk result (AtPair arena.now k (λ system weighing x.
+        AreSplitsAddedToFloor (price_of floor.parts) arena.now lists.now fresh.now x made.old made.new)) }
+{
+    if made.covers(floor) {
+        return Ok(());
+    }
+    add_fresh_splits(arena, lists, fresh, k, work, made)
 }
 
 // Adds what the splits of the set of pair `k` make, if one of the pairs that follow by them is fresh.
