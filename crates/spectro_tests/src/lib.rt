@@ -40,8 +40,6 @@ mod quoted_labels;
 #[cfg(test)]
 mod rows;
 #[cfg(test)]
-mod runs;
-#[cfg(test)]
 mod samples;
 #[cfg(test)]
 mod sheets;
