@@ -1,10 +1,10 @@
 -- Any two systems have a report.
-use Rattle.std.proofs.Common.{◌≡◌, ◌∙◌, ◌+◌, ◌-◌, ◌^◌, ◌<◌, ◌≤◌, ℕ, List, [], ◌∷◌, ◌++◌, Contains, length, map, min, take, drop, ap, sym, subst, refl, arith, length-append, take-append-drop}
-use Rattle.std.specs.Prelude.{Option, None, Some, slice_get}
+use Rattle.std.proofs.Common.{◌≡◌, ◌∙◌, ◌+◌, ◌-◌, ◌^◌, ◌<◌, ℕ, List, [], ◌∷◌, ◌++◌, length, map, min, take, drop, ap, sym, subst, refl, arith, take-append-drop}
+use Rattle.std.specs.Prelude.{Option}
 use Rattle.std.specs.Option.{option_map}
 use Rattle.std.specs.List.{sum_by}
 use Rattle.std.proofs.lemmas.List.{length-map, length-take-le, length-drop}
-use Rattle.std.proofs.lemmas.Option.{slice_get-map, slice_get_within}
+use Rattle.std.proofs.lemmas.Option.{slice_get-map}
 use Rattle.spectro_spec.specs.System.{System, join}
 use Rattle.spectro_spec.specs.Weighing.{Weighing}
 use Rattle.spectro_spec.specs.Price.{Price}
@@ -19,7 +19,6 @@ use Rattle.spectro_theory.proofs.Reaching.{some_pairs}
 use Rattle.spectro_theory.proofs.RowsOfGenerations.{listed_at-first}
 use Rattle.spectro_theory.proofs.Universe.{some_least}
 use Rattle.spectro_hml.specs.Sheets.{SheetNode}
-use Rattle.spectro_build.specs.Choices.{Need}
 use Rattle.spectro_build.specs.Built.{IsBuilt}
 use Rattle.spectro_build.specs.LawsOfBuilding.{BuiltNodesAreExact, ListedPricesHaveASheet}
 use Rattle.spectro_report.specs.Compared.{AreCompared, initial_of_right, forth_pair, back_pair}

@@ -1,19 +1,15 @@
 -- What follows for verdicts that are so.
-use Rattle.std.proofs.Common.{◌≡◌, ◌∙◌, ℕ, zero, suc, List, [], ◌∷◌, length, ap, sym, subst, refl, arith}
+use Rattle.std.proofs.Common.{◌≡◌, ℕ, zero, suc, List, [], ◌∷◌, sym, subst, refl}
 use Rattle.std.specs.Prelude.{Option, None, Some, slice_get}
-use Rattle.std.specs.List.{AllZip}
-use Rattle.std.specs.Option.{option_map}
 use Rattle.spectro_spec.specs.System.{System}
 use Rattle.spectro_spec.specs.Weighing.{Weighing}
-use Rattle.spectro_spec.specs.Price.{Price}
 use Rattle.spectro_spec.specs.Notion.{Bound, Notion, Holds, IsWithin}
-use Rattle.spectro_spec.specs.LeastPrices.{AreLeastPrices}
 use Rattle.spectro_game.specs.Reached.{StandsAt}
 use Rattle.spectro_theory.specs.LawsOfNotions.{LeastPricesAreReached, SmallerBoundsHoldMore}
 use Rattle.spectro_hml.specs.Sheets.{SheetNode, unfolded}
-use Rattle.spectro_notions.specs.Tables.{IsBelowIn, bound_at}
+use Rattle.spectro_notions.specs.Tables.{bound_at}
 use Rattle.spectro_report.specs.Clauses.{AreLeast, HoldBelow}
-use Rattle.spectro_report.specs.Verdicts.{Verdict, holds, fails, AreVerdicts, IsFailure, IsVerdict}
+use Rattle.spectro_report.specs.Verdicts.{Verdict, holds, fails, AreVerdicts, IsVerdict}
 use Rattle.spectro_report.proofs.Finding.{first-member}
 
 module _ (weighing : Weighing) (system : System) (p q : ℕ) (nodes : List SheetNode) where

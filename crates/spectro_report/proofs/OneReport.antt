@@ -1,5 +1,5 @@
 -- Two systems have one report: what is reached, the least prices, what fails at which price, and so the sheet and its nodes are one.
-use Rattle.std.proofs.Common.{inl, inr, ◌≡◌, ◌∙◌, ◌+◌, ◌-◌, ◌^◌, ℕ, zero, suc, List, [], ◌∷◌, ◌++◌, All, Contains, length, min, ap, sym, subst, refl, arith}
+use Rattle.std.proofs.Common.{inl, inr, ◌≡◌, ◌∙◌, ◌-◌, ◌^◌, ℕ, zero, suc, List, [], ◌∷◌, ◌++◌, All, Contains, length, min, ap, sym, subst, refl, arith}
 use Rattle.std.specs.List.{sum_by}
 use Rattle.std.proofs.lemmas.List.{append_cancel_left}
 use Rattle.spectro_spec.specs.System.{System, join}
@@ -16,7 +16,7 @@ use Rattle.spectro_theory.proofs.LeastLists.{one_least}
 use Rattle.spectro_hml.specs.Sheets.{SheetNode}
 use Rattle.spectro_build.specs.Built.{IsBuilt}
 use Rattle.spectro_build.specs.LawsOfBuilding.{IsSolvedOn, IsListed, SolvedTablesBuildOneSheet}
-use Rattle.spectro_report.specs.Compared.{AreCompared, initial_of_right, forth_pair, back_pair}
+use Rattle.spectro_report.specs.Compared.{initial_of_right, forth_pair, back_pair}
 use Rattle.spectro_report.specs.LawsOfReports.{ReportsAreOne}
 use Rattle.spectro_report.specs.Reports.{AreEnergies, IsReport, Report, needs_at, needs_told, nodes_told, prices_told}
 use Rattle.spectro_report.specs.Verdicts.{Verdict, holds, fails, AreVerdicts}

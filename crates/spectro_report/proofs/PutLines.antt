@@ -78,5 +78,5 @@ pub report-pieces : (table : List Notion) (parts : Parts) (report : Report)
     ≡ (((extents_text report ++ section_text (codes "left to right\n") parts table report.forth) ++
     section_text (codes "right to left\n") parts table report.back) ++ equivalences_text table report) ++ nodes_part report
 report-pieces table parts report =
-    eight-pieces (extents_text report) (codes "left to right\n") (verdict_lines parts table report.forth) (codes "right to left\n") (verdict_lines parts table report.back) (codes "equivalences\n")
-    (equivalence_lines table report.forth report.back) (nodes_part report)
+    eight-pieces (extents_text report) (codes "left to right\n") (verdict_lines parts table report.forth) (codes "right to left\n")
+    (verdict_lines parts table report.back) (codes "equivalences\n") (equivalence_lines table report.forth report.back) (nodes_part report)

@@ -1,8 +1,7 @@
 -- What is too large where two states are compared, is so where the systems are.
-use Rattle.std.proofs.Common.{◌≡◌, List, [], ◌∷◌, ◌<◌, ℕ, sym, subst}
+use Rattle.std.proofs.Common.{ℕ, sym, subst}
 use Rattle.spectro_spec.specs.System.{System, join}
 use Rattle.spectro_game.specs.Pairs.{AreReachedPairs}
-use Rattle.spectro_pairs.specs.Explored.{start_pair}
 use Rattle.spectro_report.specs.Clauses.{IsRefused}
 use Rattle.spectro_report.specs.Compared.{initial_of_right}
 use Rattle.spectro_report.specs.Starts.{IsTooLarge}

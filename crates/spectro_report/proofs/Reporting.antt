@@ -1,8 +1,7 @@
 -- The report that is made of what was found and built.
-use Rattle.std.proofs.Common.{inl, inr, ◌≡◌, ◌∙◌, ◌+◌, ◌-◌, ◌^◌, ◌<◌, ◌⊎◌, ℕ, List, [], ◌∷◌, ◌++◌, All, Contains, length, map, min, ap, sym, subst, refl, arith, append-nil}
-use Rattle.std.specs.Prelude.{Option}
+use Rattle.std.proofs.Common.{inl, inr, ◌≡◌, ◌∙◌, ◌+◌, ◌-◌, ◌^◌, ℕ, List, [], ◌∷◌, ◌++◌, All, Contains, length, min, ap, sym, subst, refl, arith, append-nil}
 use Rattle.std.specs.Option.{option_map}
-use Rattle.std.specs.List.{AllByRecursion, AllZip, sum_by}
+use Rattle.std.specs.List.{AllByRecursion, sum_by}
 use Rattle.std.proofs.lemmas.Bool.{cases_eq}
 use Rattle.std.proofs.lemmas.List.Elements.{All-from_recursion}
 use Rattle.std.proofs.lemmas.Option.{slice_get-map}
@@ -26,7 +25,7 @@ use Rattle.spectro_build.specs.Choices.{Need}
 use Rattle.spectro_build.specs.Built.{IsBuilt}
 use Rattle.spectro_build.specs.LawsOfBuilding.{IsSolvedOn, IsListed, BuiltNodesAreExact}
 use Rattle.spectro_report.specs.Compared.{AreCompared, initial_of_right, forth_pair, back_pair}
-use Rattle.spectro_report.specs.Firsts.{AreSides, AreTold, prices_found}
+use Rattle.spectro_report.specs.Firsts.{AreSides}
 use Rattle.spectro_report.specs.Reports.{AreEnergies, IsReport, Report, extent_of, needs_at, needs_told, nodes_told, prices_told}
 use Rattle.spectro_report.specs.Verdicts.{Verdict, holds, fails}
 use Rattle.spectro_report.proofs.Finding.{found-member}

@@ -3,13 +3,12 @@ use Rattle.std.proofs.Common.{◌≡◌, ◌∙◌, ℕ, List, [], ◌∷◌, ap
 use Rattle.spectro_spec.specs.System.{System}
 use Rattle.spectro_spec.specs.Weighing.{Weighing}
 use Rattle.spectro_spec.specs.Price.{Price}
-use Rattle.spectro_spec.specs.Pricing.{price}
 use Rattle.spectro_spec.specs.Notion.{Bound, Notion, IsWithin, Holds}
 use Rattle.spectro_theory.specs.LawsOfNotions.{IsFirstWithin}
 use Rattle.spectro_theory.proofs.LeastLists.{one_least}
 use Rattle.spectro_hml.specs.Sheets.{SheetNode, unfolded}
 use Rattle.spectro_report.specs.Reports.{prices_told, nodes_told}
-use Rattle.spectro_report.specs.Verdicts.{Verdict, holds, fails, IsFailure, IsVerdict, AreVerdicts}
+use Rattle.spectro_report.specs.Verdicts.{Verdict, holds, fails, IsFailure, AreVerdicts}
 use Rattle.spectro_report.specs.declared.verdict.Shown.{Shown}
 use Rattle.spectro_report.proofs.Finding.{one_first}
 use Rattle.spectro_report.proofs.HowShown.{one_shown}
@@ -64,4 +63,5 @@ module _ (weighing : Weighing) (system : System) (p q : ℕ) where
       let node-is : k ≡ l = cc in
       let rest : nodes_told verdicts ≡ nodes_told more = cc in
       let shown-is : shown ≡ other = one_shown (unfolded nodes k) shown other are.0.shown (rw node-is also.0.shown) in
-      (λ i. fails (price-is i) (node-is i) (shown-is i) ∷ verdicts) ∙ ap (λ vs. fails f l other ∷ vs) (same_verdicts nodes table verdicts more are.1 also.1 rest)
+      (λ i. fails (price-is i) (node-is i) (shown-is i) ∷ verdicts)
+      ∙ ap (λ vs. fails f l other ∷ vs) (same_verdicts nodes table verdicts more are.1 also.1 rest)

@@ -48,7 +48,8 @@ abbrev pub AreExact : Weighing → System → ℕ → ℕ → List SheetNode →
 AreExact weighing system p q nodes es numbers =
     (i k : ℕ) (e : Price) → StandsAt es i e → StandsAt numbers i k → IsOfPrice weighing system p (q ∷ []) e (unfolded nodes k)
 
-module _ (weighing : Weighing) (system : System) (p q : ℕ) (nodes : List SheetNode) (es : List Price) (least : AreLeastPrices weighing system p (q ∷ []) es) where
+module _ (weighing : Weighing) (system : System) (p q : ℕ) (nodes : List SheetNode) (es : List Price)
+    (least : AreLeastPrices weighing system p (q ∷ []) es) where
   pub told-verdicts : (table : List Notion) (firsts : List (Option Price)) (verdicts : List Verdict) → AreFirsts es table firsts
       → AllZip (IsTold nodes) firsts verdicts → AreExact weighing system p q nodes (prices_told verdicts) (nodes_told verdicts)
       → AreVerdicts weighing system p q nodes table verdicts

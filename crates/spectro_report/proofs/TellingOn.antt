@@ -30,7 +30,8 @@ module _ (firsts : List (Option Energy)) (k : ℕ) (d : Option Energy) (below : 
   -- one more is told, by the next of the numbers
   pub told-next : (nodes : List SheetNode) (numbers : List ℕ) (next count : ℕ) (old new : List Verdict)
       → AreTold nodes (firsts_of (take k firsts)) (take next numbers) old
-      → IsPutLast nodes (option_map (λ energy. price_of energy.parts) (get_or firsts k d)) (take count (take (length numbers - next) (drop next numbers))) old new
+      → IsPutLast nodes (option_map (λ energy. price_of energy.parts) (get_or firsts k d))
+      (take count (take (length numbers - next) (drop next numbers))) old new
       → AreTold nodes (firsts_of (take (k + 1) firsts)) (take (next + count) numbers) new
   told-next nodes numbers next count old new told last =
       let price : Option Energy → Option Price = option_map (λ energy. price_of energy.parts) in

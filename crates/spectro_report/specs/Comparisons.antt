@@ -24,7 +24,8 @@ pub record AreBothTold (nodes : List SheetNode) (firsts others : List (Option Pr
   pub back : AreTold nodes others (drop half numbers) (map verdict_of said.back.items)
 
 -- over the rows of the least prices of the pairs it is said of the notions what is so from p to q and from q to p, by the sheet that is built for just that
-pub record IsSaid (weighing : Weighing) (system : System) (p q : ℕ) (table : List Notion) (pairs : List Pair) (rows : List (List Price)) (said : Directions) : Type 0 where
+pub record IsSaid (weighing : Weighing) (system : System) (p q : ℕ) (table : List Notion) (pairs : List Pair) (rows : List (List Price))
+    (said : Directions) : Type 0 where
   pub forth : AreSides table (listed_at pairs rows p (q ∷ [])) said.sheet (map verdict_of said.forth.items)
   pub back : AreSides table (listed_at pairs rows q (p ∷ [])) said.sheet (map verdict_of said.back.items)
   pub built : IsBuilt weighing system pairs (listed_at pairs rows)

@@ -1,5 +1,5 @@
 -- Laws of reports.
-use Rattle.std.specs.Prelude.{ℕ, ◌≡◌, List}
+use Rattle.std.specs.Prelude.{◌≡◌, List}
 use Rattle.spectro_spec.specs.System.{System}
 use Rattle.spectro_spec.specs.Weighing.{Weighing}
 use Rattle.spectro_spec.specs.Notion.{Notion}

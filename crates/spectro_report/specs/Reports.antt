@@ -22,7 +22,8 @@ pub record Extent : Type 0 where
   pub states : ℕ
   pub transitions : ℕ
 
--- the extents of both systems, the numbers of pairs, of positions and of least prices, the verdicts from left to right and from right to left, and the sheet of the formulas
+-- the extents of both systems, the numbers of pairs, of positions and of least prices,
+-- the verdicts from left to right and from right to left, and the sheet of the formulas
 pub record Report : Type 0 where
   pub left : Extent
   pub right : Extent

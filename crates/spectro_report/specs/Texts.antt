@@ -1,5 +1,5 @@
 -- The text of a report.
-use Rattle.std.specs.Prelude.{ℕ, Bool, true, false, List, [], ◌∷◌, ◌++◌, ◌||◌, ◌&&◌, codes, if◌then◌else◌}
+use Rattle.std.specs.Prelude.{ℕ, Bool, true, false, List, [], ◌++◌, ◌||◌, ◌&&◌, codes, if◌then◌else◌}
 use Rattle.std.specs.Fmt.{decimal}
 use Rattle.std.specs.List.{flat_map, list_any, zip}
 use Rattle.spectro_spec.specs.Notion.{Notion}
@@ -18,7 +18,8 @@ side_line side extent = side ++ codes ": " ++ decimal extent.states ++ codes " s
 
 -- pairs P, positions S, energies E, and LF
 abbrev pub game_line : Report → List ℕ
-game_line report = codes "pairs " ++ decimal report.pairs ++ codes ", positions " ++ decimal report.size ++ codes ", energies " ++ decimal report.energies ++ codes "\n"
+game_line report =
+    codes "pairs " ++ decimal report.pairs ++ codes ", positions " ++ decimal report.size ++ codes ", energies " ++ decimal report.energies ++ codes "\n"
 
 -- the lines of both sides and of the game
 abbrev pub extents_text : Report → List ℕ

@@ -34,7 +34,8 @@ abbrev pub IsShownAs : Formula → Shown → Type 0
 IsShownAs formula (Inline text) = (text ≡ formula_text formula) × (length (formula_text formula) ≤ MAX_INLINE_BYTES)
 IsShownAs formula ByNode = MAX_INLINE_BYTES < length (formula_text formula)
 
--- the notion of the bound fails: e is the first of the least prices within the bound, and the formula of node k, which is shown so, distinguishes p from q at just that price
+-- the notion of the bound fails: e is the first of the least prices within the bound,
+-- and the formula of node k, which is shown so, distinguishes p from q at just that price
 pub record IsFailure (weighing : Weighing) (system : System) (p q : ℕ) (nodes : List SheetNode) (bound : Bound) (e : Price) (k : ℕ) (how : Shown) : Type 0 where
   pub prices : List Price
   pub least : AreLeastPrices weighing system p (q ∷ []) prices
@@ -51,7 +52,8 @@ IsVerdict weighing system p q nodes bound (fails e k how) = IsFailure weighing s
 
 -- there is a verdict for each notion of the table, in its order, and each is so
 abbrev pub AreVerdicts : Weighing → System → ℕ → ℕ → List SheetNode → List Notion → List Verdict → Type 0
-AreVerdicts weighing system p q nodes table verdicts = AllZip (λ (notion : Notion) verdict. IsVerdict weighing system p q nodes notion.bound verdict) table verdicts
+AreVerdicts weighing system p q nodes table verdicts =
+    AllZip (λ (notion : Notion) verdict. IsVerdict weighing system p q nodes notion.bound verdict) table verdicts
 
 -- the notion of this number is said to hold
 abbrev pub SaysHolds : List Verdict → ℕ → Type 0

@@ -1,5 +1,4 @@
 -- The comparison of both initial states in the joined system is the report on the systems.
-use Rattle.std.proofs.Common.{◌≡◌, ◌∙◌, ap, sym}
 use Rattle.std.proofs.lemmas.Result.{err_from_is_err_and}
 use Rattle.std.proofs.lemmas.Slice.Zip.{AllZip-long}
 use Rattle.spectro_spec.specs.System.{join}
