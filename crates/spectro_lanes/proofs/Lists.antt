@@ -197,3 +197,8 @@ sup-zero e = λ i. record {
   where
     nothing : (n : ℕ) → max n 0 ≡ n
     nothing n = omega arith
+
+-- so for each of a list
+pub sups-zero : (es : List Price) → map (λ e. sup e zero_price) es ≡ es
+sups-zero [] = refl
+sups-zero (e ∷ es) = λ i. sup-zero e i ∷ sups-zero es i

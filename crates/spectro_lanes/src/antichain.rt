@@ -101,6 +101,14 @@ impl Antichain {
         self.members.clear();
     }
 
+    /// Makes its members those of the other one. Its memory is kept for them. After an error there is no member.
+    pub fn assign(&mut self, other: &Antichain) -> Result<(), AllocError>
+        ensures ok { OnOk result (self.new ≡ other.now) }
+        ensures err { OnErr result (self.new ≡ []) }
+    {
+        self.members.assign(&other.members)
+    }
+
     /// Whether both have the same members.
     pub fn is_same(&self, other: &Antichain) -> bool
         ensures { IsTrue result ↔ self.now ≡ other.now }

@@ -10,7 +10,7 @@ use std::alloc::{AllocError, Global};
 // how many members the first memory is for
 const FIRST_STRIDE: usize = 4;
 
-const ZERO: Energy = Energy { parts: [0; PARTS] };
+pub(crate) const ZERO: Energy = Energy { parts: [0; PARTS] };
 
 // Seven columns of numbers in one memory: part `j` of member `k` is at `j * stride + k`.
 #[derive(Drop)]

@@ -1,10 +1,11 @@
-ghost use Rattle.std.specs.Prelude.{◌≡◌, ◌↔◌, ◌<◌, [], ◌∷◌, length, slice_index_or, IsTrue, IfOk, OnOk, OnErr};
+ghost use Rattle.std.specs.Prelude.{◌≡◌, ◌↔◌, ◌<◌, [], ◌∷◌, ◌++◌, length, slice_index_or, IsTrue, IfOk, OnOk, OnErr};
 ghost use Rattle.spectro_spec.specs.Price.{IsAtMost};
 ghost use Rattle.spectro_spec.specs.LeastPrices.{Covers};
 ghost use Rattle.spectro_game.specs.MinimalElements.{not_above, placed_price};
 ghost use Rattle.spectro_energy.specs.Energy.{price_of};
 ghost use Rattle.spectro_lanes.specs.Members.{prices_held};
 
+use crate::buffer::ZERO;
 use crate::columns::Columns;
 use crate::lanes::is_below;
 use spectro_energy::Energy;
@@ -78,6 +79,19 @@ impl Members {
         }
     }
 
+    // Makes its members those of the other, in the memory that it has. After an error there is none.
+    pub(crate) fn assign(&mut self, other: &Members) -> Result<(), AllocError>
+        ensures ok { OnOk result (prices_held self.new ≡ prices_held other.now) }
+        ensures err { OnErr result (prices_held self.new ≡ []) }
+    {
+        self.clear();
+        match self {
+            Members::Many(columns) => put_all(columns, other)?,
+            _ => *self = other.copy()?,
+        }
+        Ok(())
+    }
+
     pub(crate) fn copy(&self) -> Result<Members, AllocError>
         ensures { IfOk result (λ copy. prices_held copy ≡ prices_held self.now) }
     {
@@ -121,4 +135,16 @@ fn copy_of(columns: &Columns) -> Result<Members, AllocError>
         return Ok(Members::One(columns.item(0)));
     }
     Ok(Members::Many(columns.copy()?))
+}
+
+// Puts the members last. The sup with the zero energy is the member itself.
+fn put_all(columns: &mut Columns, members: &Members) -> Result<(), AllocError>
+    ensures ok { OnOk result (columns.new ≡ columns.old ++ prices_held members.now) }
+    ensures err { OnErr result (columns.new ≡ columns.old) }
+{
+    match members {
+        Members::Empty => Ok(()),
+        Members::One(e) => columns.push(*e),
+        Members::Many(others) => others.sup_into(ZERO, columns),
+    }
 }

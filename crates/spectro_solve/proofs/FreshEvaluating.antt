@@ -25,6 +25,7 @@ use Rattle.spectro_pairs.specs.Explored.{Explored, IsExploredFrom, start_pairs}
 use Rattle.spectro_solve.specs.Added.{AreSomeAdded, IsAdded, IsMadeBy}
 use Rattle.spectro_solve.specs.Choices.{AffordsConjunction}
 use Rattle.spectro_solve.specs.Fresh.{AffordsFreshAmong, AffordsTurned, AreSplitsAdded, AreSplitsAddedToFloor, IsAddedToFloor, IsFloor, IsKept, IsNegatedBy}
+use Rattle.spectro_solve.specs.Marks.{IsMarked}
 use Rattle.spectro_solve.proofs.Listing.{listed-at}
 use Rattle.spectro_solve.proofs.NamedObservations.{observed-step, step-observed}
 
@@ -140,84 +141,96 @@ module _ (system : System) (weighing : Weighing) (starts : List (ℕ × ℕ)) (e
           ]
 
   -- ---- all of it
-  -- the copy of the old list is sound
-  from-old : (empty old : List Price) → empty ≡ [] → IsAdded (Covers (row_at rows k)) empty old
-      → (e : Price) → Covers old e → Affords weighing system (members_of table) x.state x.set e
-  from-old empty old none first e covered = elim ((first e).0 covered) [
-    | inl before ↦ (let at = subst (λ es. Covers es e) none before in absurd (Contains-none at.0 at.1))
-    | inr own ↦ kept.sound e own
-  ]
-
   -- a list that reaches the floor covers all that is afforded
-  floored : (f : Price) → IsFloor explored.weights x.set f → (n : ℕ) → (empty old new : List Price) → empty ≡ [] → Rises new → AreApart new
-      → IsAdded (Covers (row_at rows k)) empty old → AreSomeAdded (AffordsFreshAmong weighing system explored rows fresh x n) old new → Covers new f
+  floored : (f : Price) → IsFloor explored.weights x.set f → (n : ℕ) → (new : List Price) → Rises new → AreApart new
+      → AreSomeAdded (AffordsFreshAmong weighing system explored rows fresh x n) (row_at rows k) new → Covers new f
       → new ≡ backward_step weighing system table x.state x.set
-  floored f floor n empty old new none rises apart first some (g, member, low) =
+  floored f floor n new rises apart some (g, member, low) =
       same_by_cover new (backward_step weighing system table x.state x.set) rises (backward_step-rises weighing system table x.state x.set) apart
       (backward_step-apart weighing system table x.state x.set)
       (λ e covered. affords-backward_step weighing system table x.state x.set e (elim (some.sound e covered) [
-        | inl before ↦ from-old empty old none first e before
+        | inl own ↦ kept.sound e own
         | inr observed ↦ observation-sound n e observed
       ]))
       (λ e covered. (g, member, IsAtMost-trans low (floor e (kept.on_floor e (backward_step-affords weighing system table x.state x.set e covered)))))
 
-  made-by : (n : ℕ) → length (observed system x) ≤ n → (Splits : Price → Type 0) (empty old mid new : List Price) → empty ≡ [] → Rises new → AreApart new
-      → IsAdded (Covers (row_at rows k)) empty old → IsAdded (AffordsFreshAmong weighing system explored rows fresh x n) old mid → IsAdded Splits mid new
+  made-by : (n : ℕ) → length (observed system x) ≤ n → (Splits : Price → Type 0) (mid new : List Price) → Rises new → AreApart new
+      → IsAdded (AffordsFreshAmong weighing system explored rows fresh x n) (row_at rows k) mid → IsAdded Splits mid new
       → ((e : Price) → Splits e → AffordsConjunction table x e) → ((e : Price) → AffordsConjunction table x e → Covers (row_at rows k) e ⊎ Splits e)
       → new ≡ backward_step weighing system table x.state x.set
-  made-by n all Splits empty old mid new none rises apart first second third sound full =
+  made-by n all Splits mid new rises apart first second sound full =
       same_by_cover new (backward_step weighing system table x.state x.set) rises (backward_step-rises weighing system table x.state x.set) apart
       (backward_step-apart weighing system table x.state x.set)
-      (λ e covered. affords-backward_step weighing system table x.state x.set e (there e ((third e).0 covered)))
+      (λ e covered. affords-backward_step weighing system table x.state x.set e (there e ((second e).0 covered)))
       (λ e covered. back e (backward_step-affords weighing system table x.state x.set e covered))
     where
       there : (e : Price) → Covers mid e ⊎ Splits e → Affords weighing system (members_of table) x.state x.set e
-      there e (inl before) = elim ((second e).0 before) [ inl covered ↦ from-old empty old none first e covered | inr observed ↦ observation-sound n e observed ]
+      there e (inl before) = elim ((first e).0 before) [ inl own ↦ kept.sound e own | inr observed ↦ observation-sound n e observed ]
       there e (inr split) = inr (sound e split)
 
       own-covered : (e : Price) → Covers (row_at rows k) e → Covers new e
-      own-covered e own = (third e).1 (inl ((second e).1 (inl ((first e).1 (inr own)))))
+      own-covered e own = (second e).1 (inl ((first e).1 (inl own)))
 
       back : (e : Price) → Affords weighing system (members_of table) x.state x.set e → Covers new e
       back e (inl (label, t, step, made)) = elim (observation-whole n all e label t step made) [
         | inl own ↦ own-covered e own
-        | inr observed ↦ (third e).1 (inl ((second e).1 (inr observed)))
+        | inr observed ↦ (second e).1 (inl ((first e).1 (inr observed)))
       ]
-      back e (inr split) = elim (full e split) [ inl own ↦ own-covered e own | inr more ↦ (third e).1 (inr more) ]
+      back e (inr split) = elim (full e split) [ inl own ↦ own-covered e own | inr more ↦ (second e).1 (inr more) ]
 
-  fresh-evaluated : (n : ℕ) → length (observed system x) ≤ n → (empty old mid new : List Price) → empty ≡ [] → Rises new → AreApart new
-      → IsAdded (Covers (row_at rows k)) empty old → IsAdded (AffordsFreshAmong weighing system explored rows fresh x n) old mid
+  fresh-evaluated : (n : ℕ) → length (observed system x) ≤ n → (mid new : List Price) → Rises new → AreApart new
+      → IsAdded (AffordsFreshAmong weighing system explored rows fresh x n) (row_at rows k) mid
       → AreSplitsAdded explored rows fresh x mid new → new ≡ backward_step weighing system table x.state x.set
-  fresh-evaluated n all empty old mid new none rises apart first second (inl (one, added)) =
+  fresh-evaluated n all mid new rises apart first (inl (one, added)) =
       let q = first-of x.set one in
-      made-by n all (AffordsTurned explored rows fresh x) empty old mid new none rises apart first second added turned-sound (λ e. turned-whole e q.0 q.1)
+      made-by n all (AffordsTurned explored rows fresh x) mid new rises apart first added turned-sound (λ e. turned-whole e q.0 q.1)
     where
       first-of : (qs : List ℕ) → length qs ≡ 1 → (q : ℕ) × (qs ≡ q ∷ [])
       first-of [] one = absurd (omega arith)
       first-of (q ∷ []) one = (q, refl)
       first-of (q ∷ r ∷ qs) one = absurd (omega arith)
-  fresh-evaluated n all empty old mid new none rises apart first second (inr (inl (some, stale, still))) =
-      made-by n all (λ e. ⊥) empty old mid new none rises apart first second
+  fresh-evaluated n all mid new rises apart first (inr (inl (some, stale, still))) =
+      made-by n all (λ e. ⊥) mid new rises apart first
       (λ e. (
         (λ covered. inl (subst (λ l. Covers l e) still covered)),
         λ h. elim h [ inl covered ↦ subst (λ l. Covers l e) (sym still) covered | inr never ↦ absurd never ],
       ))
       (λ e never. absurd never) (λ e split. inl (kept.split some stale e split))
-  fresh-evaluated n all empty old mid new none rises apart first second (inr (inr added)) =
-      made-by n all (AffordsConjunction table x) empty old mid new none rises apart first second added (λ e split. split) (λ e split. inr split)
+  fresh-evaluated n all mid new rises apart first (inr (inr added)) =
+      made-by n all (AffordsConjunction table x) mid new rises apart first added (λ e split. split) (λ e split. inr split)
 
   some-of : (f : Price) (Made : Price → Type 0) (old mid : List Price) → IsAddedToFloor f Made old mid → AreSomeAdded Made old mid
   some-of f Made old mid (inl added) = record { sound = λ e covered. (added e).0 covered; kept = λ e covered. (added e).1 (inl covered) }
   some-of f Made old mid (inr (some, covers)) = some
 
-  pub evaluated-to-floor : (f : Price) → IsFloor explored.weights x.set f → (n : ℕ) → length (observed system x) ≤ n → (empty old mid new : List Price) → empty ≡ []
-      → Rises new → AreApart new → IsAdded (Covers (row_at rows k)) empty old
+  pub evaluated-to-floor : (f : Price) → IsFloor explored.weights x.set f → (n : ℕ) → length (observed system x) ≤ n → (old mid new : List Price)
+      → old ≡ row_at rows k → Rises new → AreApart new
       → IsAddedToFloor f (AffordsFreshAmong weighing system explored rows fresh x n) old mid → AreSplitsAddedToFloor f explored rows fresh x mid new
       → new ≡ backward_step weighing system table x.state x.set
-  evaluated-to-floor f floor n all empty old mid new none rises apart first observed (inl (covers, still)) =
-      floored f floor n empty old new none rises apart first
+  evaluated-to-floor f floor n all old mid new own rises apart observed (inl (covers, still)) =
+      floored f floor n new rises apart
+      (subst (λ l. AreSomeAdded (AffordsFreshAmong weighing system explored rows fresh x n) l new) own
       (subst (AreSomeAdded (AffordsFreshAmong weighing system explored rows fresh x n) old) (sym still)
-      (some-of f (AffordsFreshAmong weighing system explored rows fresh x n) old mid observed)) (subst (λ l. Covers l f) (sym still) covers)
-  evaluated-to-floor f floor n all empty old mid new none rises apart first (inl added) (inr (above, splits)) =
-      fresh-evaluated n all empty old mid new none rises apart first added splits
-  evaluated-to-floor f floor n all empty old mid new none rises apart first (inr (some, covers)) (inr (above, splits)) = absurd (above covers)
+      (some-of f (AffordsFreshAmong weighing system explored rows fresh x n) old mid observed))) (subst (λ l. Covers l f) (sym still) covers)
+  evaluated-to-floor f floor n all old mid new own rises apart (inl added) (inr (above, splits)) =
+      fresh-evaluated n all mid new rises apart
+      (subst (λ l. IsAdded (AffordsFreshAmong weighing system explored rows fresh x n) l mid) own added) splits
+  evaluated-to-floor f floor n all old mid new own rises apart (inr (some, covers)) (inr (above, splits)) = absurd (above covers)
+
+  -- ---- lists that stay
+  -- a list that reaches the floor stays
+  pub settled-on-floor : (f : Price) → IsFloor explored.weights x.set f → Rises (row_at rows k) → AreApart (row_at rows k) → Covers (row_at rows k) f
+      → row_at rows k ≡ backward_step weighing system table x.state x.set
+  settled-on-floor f floor rises apart covers =
+      floored f floor 0 (row_at rows k) rises apart (record { sound = λ e covered. inl covered; kept = λ e covered. covered }) covers
+
+  -- where nothing is fresh, a list stays whose pair has a set with members
+  pub settled-without-fresh : x.set ≢ [] → ((j : ℕ) → ¬ IsMarked fresh j) → Rises (row_at rows k) → AreApart (row_at rows k)
+      → row_at rows k ≡ backward_step weighing system table x.state x.set
+  settled-without-fresh some none rises apart =
+      fresh-evaluated (length (observed system x)) (omega arith) (row_at rows k) (row_at rows k) rises apart
+      (λ e. ((λ covered. inl covered), λ h. elim h [ inl covered ↦ covered | inr made ↦ absurd (unmade e made) ]))
+      (inr (inl (some, (λ j y there follows. none j), refl)))
+    where
+      unmade : (e : Price) → ¬ AffordsFreshAmong weighing system explored rows fresh x (length (observed system x)) e
+      unmade e (i, below, (y, label, j, stands, labelled, there, marked, made)) = none j marked

@@ -14,6 +14,7 @@ use Rattle.spectro_rows.specs.Rows.{row_at}
 use Rattle.spectro_solve.specs.Added.{AreSomeAdded, IsAdded, IsMadeBy}
 use Rattle.spectro_solve.specs.Fresh.{AffordsFreshAmong, AffordsFreshAt, AffordsTurned, IsFreshNegated, IsNegatedBy}
 use Rattle.spectro_solve.specs.Marks.{IsMarked}
+use Rattle.spectro_solve.proofs.Adding.{added-then}
 
 module _ (system : System) (weighing : Weighing) (starts : List (ℕ × ℕ)) (explored : Explored) (source : IsExploredFrom system weighing starts explored)
     (rows : List (List Price)) (fresh : List Bool) (k i label_no pair weight : ℕ) (x : Pair) (here : StandsAt explored.pairs k x)
@@ -55,7 +56,7 @@ module _ (system : System) (weighing : Weighing) (starts : List (ℕ × ℕ)) (e
   stale-observation stale e (y, label, j, stands, under, there, marked, made) = stale (subst (IsMarked fresh) (number-is y j stands there) marked)
 
 -- one observation more
-pub fresh-more : (weighing : Weighing) (system : System) (explored : Explored) (rows : List (List Price)) (fresh : List Bool) (x : Pair) (n : ℕ) (e : Price)
+fresh-more : (weighing : Weighing) (system : System) (explored : Explored) (rows : List (List Price)) (fresh : List Bool) (x : Pair) (n : ℕ) (e : Price)
     → AffordsFreshAmong weighing system explored rows fresh x (n + 1) e
     ↔ AffordsFreshAmong weighing system explored rows fresh x n e ⊎ AffordsFreshAt weighing system explored rows fresh x n e
 fresh-more weighing system explored rows fresh x n e = (
@@ -65,6 +66,15 @@ fresh-more weighing system explored rows fresh x n e = (
   ]),
   (λ h. elim h [ inl (i, below, at) ↦ (i, omega (arith, below), at) | inr at ↦ (n, omega arith, at) ]),
 )
+
+-- what the first n make was added, and what the next one makes
+pub one-more : (weighing : Weighing) (system : System) (explored : Explored) (rows : List (List Price)) (fresh : List Bool) (x : Pair) (n : ℕ)
+    (made old new : List Price) → IsAdded (AffordsFreshAmong weighing system explored rows fresh x n) made old
+    → IsAdded (AffordsFreshAt weighing system explored rows fresh x n) old new
+    → IsAdded (AffordsFreshAmong weighing system explored rows fresh x (n + 1)) made new
+one-more weighing system explored rows fresh x n made old new before next =
+    added-then (AffordsFreshAmong weighing system explored rows fresh x n) (AffordsFreshAt weighing system explored rows fresh x n)
+    (AffordsFreshAmong weighing system explored rows fresh x (n + 1)) made old new before next (fresh-more weighing system explored rows fresh x n)
 
 -- what some of the observations make is some of what all make
 pub some-fresh : (weighing : Weighing) (system : System) (explored : Explored) (rows : List (List Price)) (fresh : List Bool) (x : Pair) (m n : ℕ) → m ≤ n

@@ -34,35 +34,43 @@ use crate::evaluation::Work;
 use crate::marks::Marks;
 use crate::pulls::add_pulled;
 use crate::splits::add_splits;
-use crate::steps::Steps;
 use spectro_energy::{Energy, Update};
 use spectro_lanes::Antichain;
 use spectro_pairs::Arena;
 use std::alloc::AllocError;
-use std::sync::ledger::Ledger;
 
-/// Makes the backward step at pair `k` over the lists, of which the old one of the pair has all but what the fresh ones make,
-/// and counts one step.
-pub(crate) fn evaluate_fresh<L: Ledger>(
+/// Whether the list of pair `k` is sure to stay: it reaches the floor, or no list changed in the generation before.
+pub(crate) fn is_settled(arena: &Arena, lists: &[Antichain], fresh: &Marks, k: u32) -> bool
+    requires pair { k < length arena.now.pairs }
+    requires lists { length lists.now ≡ length arena.now.pairs }
+    requires fresh { length fresh.now ≡ length arena.now.pairs }
+    requires kept { KeepsAt arena.now lists.now fresh.now k }
+    ensures { IsTrue result → IsEvaluated arena.now lists.now k (row_at lists.now k) }
+{
+    let list = &lists[k as usize];
+    if list.len() == 0 {
+        return fresh.numbers().is_empty() && !arena.set(k).is_empty();
+    }
+    list.covers(floor_at(arena, k))
+}
+
+/// Makes the backward step at pair `k` over the lists, of which the old one of the pair has all but what the fresh ones make.
+pub(crate) fn evaluate_fresh(
     arena: &Arena,
     lists: &[Antichain],
     fresh: &Marks,
     k: u32,
     work: &mut Work,
     made: &mut Antichain,
-    steps: &mut Steps<L>,
 ) -> Result<(), AllocError>
     requires pair { k < length arena.now.pairs }
     requires lists { length lists.now ≡ length arena.now.pairs }
     requires room { HaveRoom lists.now }
     requires fresh { length fresh.now ≡ length arena.now.pairs }
     requires kept { KeepsAt arena.now lists.now fresh.now k }
-    ensures made { OnOk result (IsEvaluated arena.now lists.now k made.new) }
-    ensures steps { steps.new ≡ steps.old + 1 }
+    ensures { OnOk result (IsEvaluated arena.now lists.now k made.new) }
 {
-    steps.count();
-    made.clear();
-    add_all(made, &lists[k as usize])?;
+    made.assign(&lists[k as usize])?;
     let floor = floor_at(arena, k);
     add_fresh_observations(arena, lists, fresh, k, floor, made)?;
     add_splits_to_floor(arena, lists, fresh, k, floor, work, made)?;
@@ -87,16 +95,6 @@ fn floor_at(arena: &Arena, k: u32) -> Energy
     }
 }
 
-// Adds all members.
-fn add_all(made: &mut Antichain, from: &Antichain) -> Result<(), AllocError>
-    ensures { OnOk result (IsAdded (Covers from.now) made.old made.new) }
-{
-    for k in 0..from.len() {
-        made.insert(from.item(k))?;
-    }
-    Ok(())
-}
-
 // Adds what the observations of pair `k` make that lead to fresh pairs, until the floor is reached.
 fn add_fresh_observations(
     arena: &Arena,
@@ -115,15 +113,14 @@ fn add_fresh_observations(
         made.old made.new)) }
 {
     for i in 0..arena.observation_count(k) {
-        if made.covers(floor) {
+        if add_fresh_observation(arena, lists, fresh, k, i, made)? && made.covers(floor) {
             return Ok(());
         }
-        add_fresh_observation(arena, lists, fresh, k, i, made)?;
     }
     Ok(())
 }
 
-// Adds what one observation makes, if it leads to a fresh pair.
+// Adds what one observation makes, if it leads to a fresh pair. Answers whether it does.
 fn add_fresh_observation(
     arena: &Arena,
     lists: &[Antichain],
@@ -131,7 +128,7 @@ fn add_fresh_observation(
     k: u32,
     i: u32,
     made: &mut Antichain,
-) -> Result<(), AllocError>
+) -> Result<bool, AllocError>
     requires pair { k < length arena.now.pairs }
     requires place { i < length (row_at arena.now.labels k) }
     requires lists { length lists.now ≡ length arena.now.pairs }
@@ -142,12 +139,13 @@ fn add_fresh_observation(
 {
     let observation = arena.observation(k, i);
     if !fresh.is_marked(observation.pair) {
-        return Ok(());
+        return Ok(false);
     }
     let update = Update::Observe {
         weight: observation.weight,
     };
-    add_pulled(made, &lists[observation.pair as usize], update)
+    add_pulled(made, &lists[observation.pair as usize], update)?;
+    Ok(true)
 }
 
 // Adds what the splits of the set of pair `k` make, unless the floor is reached.

@@ -16,7 +16,7 @@ ghost use Rattle.spectro_solve.specs.Fresh.{AreFresh, KeepsAt};
 ghost use Rattle.spectro_solve.specs.Solving.{GoesOn, IsAfter, IsExplored, IsArenaOf};
 
 use crate::evaluation::Work;
-use crate::fresh::evaluate_fresh;
+use crate::fresh::{evaluate_fresh, is_settled};
 use crate::marks::Marks;
 use crate::steps::Steps;
 use crate::table::Table;
@@ -208,7 +208,11 @@ fn evaluate_one<L: Ledger>(
     ensures changes { OnOk result (HasEvaluated arena.now lists.now k changes.old.items changes.new.items) }
     ensures steps { steps.new ≡ steps.old + 1 }
 {
-    evaluate_fresh(arena, lists, fresh, k, work, made, steps)?;
+    steps.count();
+    if is_settled(arena, lists, fresh, k) {
+        return Ok(());
+    }
+    evaluate_fresh(arena, lists, fresh, k, work, made)?;
     if made.is_same(&lists[k as usize]) {
         return Ok(());
     }

@@ -1,6 +1,5 @@
 use Rattle.std.proofs.Common.{arith, refl, sym, subst}
 use Rattle.std.proofs.lemmas.Bool.{true≢false}
-use Rattle.std.proofs.lemmas.Result.{on_ok_weaker}
 use Rattle.spectro_game.specs.Update.{observe}
 use Rattle.spectro_rows.specs.Rows.{row_at}
 use Rattle.spectro_solve.specs.Added.{IsAdded, IsMadeBy}
@@ -19,12 +18,12 @@ returns-then-not-is_marked c system weighing starts source x here =
     (λ marked. true≢false (sym (c.if-not-is_marked.ensures.1 marked))))
 
 pub returns : goal.returns
-returns c = on_ok_weaker c.add_pulled.result (λ added system weighing starts source x here.
+returns c system weighing starts source x here =
     added-same (IsMadeBy (observe c.observation-observation.result.weight) (row_at c.args.lists.now c.observation-observation.result.pair))
     (AffordsFreshAt weighing system c.args.arena.now c.args.lists.now c.args.fresh.now x c.args.i) c.args.made.now c.add_pulled.new.made
     (subst (λ es. IsAdded (IsMadeBy (observe c.observation-observation.result.weight) es) c.args.made.now c.add_pulled.new.made)
     (sym (row-is c.args.lists.now c.observation-observation.result.pair c.index-lists-observation.result
-    (omega (arith, c.observation-observation.ensures.pair, c.requires.lists)) c.index-lists-observation.is)) added)
+    (omega (arith, c.observation-observation.ensures.pair, c.requires.lists)) c.index-lists-observation.is)) c.in_ok-add_pulled.ensures)
     (fresh-observation system weighing starts c.args.arena.now source c.args.lists.now c.args.fresh.now c.args.k c.args.i
     c.observation-observation.result.label c.observation-observation.result.pair c.observation-observation.result.weight x here
-    (c.observation-observation.ensures.observation system weighing starts source) (c.if-not-is_marked.ensures.0 refl))) c.add_pulled.ensures
+    (c.observation-observation.ensures.observation system weighing starts source) (c.if-not-is_marked.ensures.0 refl))
