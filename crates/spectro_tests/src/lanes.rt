@@ -127,6 +127,8 @@ fn copies_and_clears(rt: &impl Abort, both: &mut Antichain) -> Result<(), AllocE
     assert!(rt; both.is_empty());
     assert!(rt; !both.is_same(&copy));
     holds(rt, &copy.meet(both)?, &[]);
+    both.assign(&copy)?;
+    holds(rt, both, &[LOW, HIGH]);
     Ok(())
 }
 
