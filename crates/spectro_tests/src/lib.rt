@@ -38,6 +38,8 @@ mod printed_formulas;
 #[cfg(test)]
 mod quoted_labels;
 #[cfg(test)]
+mod reports;
+#[cfg(test)]
 mod rows;
 #[cfg(test)]
 mod samples;
